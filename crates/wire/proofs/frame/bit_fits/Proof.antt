@@ -1,0 +1,18 @@
+use borrow.Author.Needs.{needs}
+use Rattle.wire.proofs.Tests.{tests}
+use Rattle.wire.proofs.frame.bit_fits.Statement.{statement}
+use Rattle.wire.proofs.frame.bit_fits.Tie as tie
+use Rattle.wire.proofs.frame.bit_fits.Reads as reads
+use Rattle.wire.proofs.frame.bit_fits.Lts as lts
+
+-- src/frame.rt:114:1
+returns : tie.Need-returns
+returns c = search (tests, needs)
+-- src/frame.rt:114:1
+returns-2 : tie.Need-returns-2
+returns-2 c = search (tests, needs)
+-- src/frame.rt:114:1
+returns-3 : tie.Need-returns-3
+returns-3 c = search (tests, needs)
+pub bit-fits-spec : {M : Type 1} → statement M
+bit-fits-spec = tie.close (tie.spec returns returns-2 returns-3)

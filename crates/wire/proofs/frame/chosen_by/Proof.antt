@@ -1,0 +1,15 @@
+use borrow.Author.Needs.{needs}
+use Rattle.wire.proofs.Tests.{tests}
+use Rattle.wire.proofs.frame.chosen_by.Statement.{statement}
+use Rattle.wire.proofs.frame.chosen_by.Tie as tie
+use Rattle.wire.proofs.frame.chosen_by.Reads as reads
+use Rattle.wire.proofs.frame.chosen_by.Lts as lts
+
+-- src/frame.rt:91:1
+returns : tie.Need-returns
+returns c = search (tests, needs)
+-- src/frame.rt:91:1
+returns-2 : tie.Need-returns-2
+returns-2 c = search (tests, needs)
+pub chosen-by-spec : {M : Type 1} → statement M
+chosen-by-spec = tie.close (tie.spec returns returns-2)

@@ -1,0 +1,162 @@
+-- Frames: document 01, "Frames", and the reader's and writer's rows of "Refusals".
+--     kindOf t                  the kind of a frame of round t
+--     kindSaid, bitSaid         the paper's kind and bit of each case of `Said`; bitChosen, of each case of `Choice`
+--     saidBy k b                what a frame of kind k with bit b says
+--     bitFits, maxCount         the layout table's rows for the bit and the count, by kind
+--     Content                   what a frame holds: its round, what it says, its numbers
+--     readRefusal s t           0, or 11 where the bytes s are void for round t
+--     content s t               the content of the bytes s, read in round t, if they have one
+--     writeRefusal c n          0, or the refusal for content c and an output buffer of n bytes: 10, then 3
+--     frameBytes c              the bytes of content c
+-- Bytes of a list are numbers below 256.
+use Prim.Native.Nat.{ℕ, _+_, _*_, _%_}
+use mathlib.Core.Bool.{Bool, true, false, cond, _&&_}
+use mathlib.Core.List.{List, [], _∷_, _++_}
+use mathlib.Core.Option.{Option, some, none}
+use mathlib.Core.Path.{_≡_}
+use lib.Dec.{leb, eqb}
+use lib.ListN.{length, getD, drop}
+use Rattle.wire.specs.Limits.{frameHeader, numberWidth, kindAt, bitAt, countAt, maxNumbers, maxFrame, lastRound}
+use Rattle.wire.specs.Words.{halfAt, wordAt, halfBytes, wordBytes, words, wordsBytes}
+use Rattle.wire.specs.Numbers.{rising, stored}
+use Rattle.wire.specs.Refusal.{firstFailed}
+use Rattle.wire.specs.declared.frame.Choice.{Choice}
+use Rattle.wire.specs.declared.frame.Choice.the-variants.{Bit, None}
+use Rattle.wire.specs.declared.frame.Said.{Said}
+use Rattle.wire.specs.declared.frame.Said.the-variants.{Init, Roster, Value, Proposal, Opinion}
+use Rattle.wire.specs.declared.frame.Frame.{Frame}
+use Rattle.wire.specs.declared.frame.Read.{Read}
+use Rattle.wire.specs.declared.frame.Read.the-variants.{Valid, Void}
+use Rattle.wire.specs.declared.frame.FrameRead.{FrameRead}
+use Rattle.wire.specs.declared.frame.Written.{Written}
+
+-- ---- kinds and bits
+
+-- 1 in round 1, 2 in round 2, then 3, 4, 5 in rounds 3 + 3r, 4 + 3r, 5 + 3r
+abbrev pub kindOf : ℕ → ℕ
+kindOf t = cond (eqb t 1) 1 (cond (eqb t 2) 2 (3 + t % 3))
+
+abbrev pub bitChosen : Choice → ℕ
+bitChosen (Bit b) = b
+bitChosen None = 2
+
+abbrev pub kindSaid : Said → ℕ
+kindSaid Init = 1
+kindSaid Roster = 2
+kindSaid (Value b) = 3
+kindSaid (Proposal c) = 4
+kindSaid (Opinion c) = 5
+
+abbrev pub bitSaid : Said → ℕ
+bitSaid Init = 2
+bitSaid Roster = 2
+bitSaid (Value b) = b
+bitSaid (Proposal c) = bitChosen c
+bitSaid (Opinion c) = bitChosen c
+
+-- what byte 5 of a proposal or an opinion stands for
+abbrev pub chosenBy : ℕ → Choice
+chosenBy b = cond (eqb b 2) None (Bit b)
+
+abbrev pub saidBy : ℕ → ℕ → Said
+saidBy k b =
+    cond (eqb k 1) Init
+    (cond (eqb k 2) Roster
+    (cond (eqb k 3) (Value b)
+    (cond (eqb k 4) (Proposal (chosenBy b))
+    (Opinion (chosenBy b)))))
+
+-- "value 0 or 1; propose and turn 0, 1 or 2 (none); init and roster 2"
+abbrev pub bitFits : ℕ → ℕ → Bool
+bitFits k b = cond (leb k 2) (eqb b 2) (cond (eqb k 3) (leb b 1) (leb b 2))
+
+-- "0 to 64; 0 unless roster or turn"
+abbrev pub maxCount : ℕ → ℕ
+maxCount k = cond (eqb k 2) maxNumbers (cond (eqb k 5) maxNumbers 0)
+
+-- ---- content
+
+pub record Content : Type 0 where
+  pub round : ℕ
+  pub said : Said
+  pub numbers : List ℕ
+
+-- ---- the reader
+
+abbrev pub countOf : List ℕ → ℕ
+countOf s = halfAt s countAt
+
+abbrev pub numbersOf : List ℕ → List ℕ
+numbersOf s = words (countOf s) (drop frameHeader s)
+
+abbrev pub lengthFits : List ℕ → Bool
+lengthFits s = leb frameHeader (length s) && eqb (length s) (frameHeader + numberWidth * countOf s)
+
+abbrev pub roundFits : ℕ → Bool
+roundFits t = leb 1 t && leb t lastRound
+
+abbrev pub headFits : List ℕ → ℕ → Bool
+headFits s t = roundFits t && eqb (wordAt s 0) t && eqb (getD s kindAt 0) (kindOf t)
+
+abbrev pub bodyFits : List ℕ → ℕ → Bool
+bodyFits s t = bitFits (kindOf t) (getD s bitAt 0) && leb (countOf s) (maxCount (kindOf t)) && rising 0 (numbersOf s)
+
+-- each of the three has a number of its own to come, tested in this order
+unfoldable pub readRefusal : List ℕ → ℕ → ℕ
+readRefusal s t = firstFailed ((lengthFits s, 11) ∷ (headFits s t, 11) ∷ (bodyFits s t, 11) ∷ [])
+
+abbrev pub contentOf : List ℕ → ℕ → Content
+contentOf s t = record { round = t; said = saidBy (kindOf t) (getD s bitAt 0); numbers = numbersOf s }
+
+unfoldable pub content : List ℕ → ℕ → Option Content
+content s t = cond (eqb (readRefusal s t) 0) (some (contentOf s t)) none
+
+-- the answer of `read_frame`: a void answer has an empty list beside it
+abbrev pub readStored : Option Content → FrameRead
+readStored none = record { read = Void; numbers = stored [] }
+readStored (some c) = record { read = Valid (record { round = c .round; said = c .said }); numbers = stored (c .numbers) }
+
+-- the paper's number of each case of `Read`, 0 for none
+abbrev pub numberRead : Read → ℕ
+numberRead (Valid f) = 0
+numberRead Void = 11
+
+-- what `read_frame` promises of its answer r
+pub record FrameReads (s : List ℕ) (t : ℕ) (r : FrameRead) : Type 0 where
+  pub number : numberRead (r .read) ≡ readRefusal s t
+  pub answer : r ≡ readStored (content s t)
+
+-- ---- the writer
+
+abbrev pub chosenFits : Choice → Bool
+chosenFits (Bit b) = leb b 1
+chosenFits None = true
+
+-- a bit is 0 or 1, and there is one way only to say none
+abbrev pub saidFits : Said → Bool
+saidFits Init = true
+saidFits Roster = true
+saidFits (Value b) = leb b 1
+saidFits (Proposal c) = chosenFits c
+saidFits (Opinion c) = chosenFits c
+
+unfoldable pub writable : Content → Bool
+writable c =
+    roundFits (c .round) && eqb (kindSaid (c .said)) (kindOf (c .round)) && saidFits (c .said)
+    && leb (length (c .numbers)) (maxCount (kindSaid (c .said))) && rising 0 (c .numbers)
+
+unfoldable pub writeRefusal : Content → ℕ → ℕ
+writeRefusal c n = firstFailed ((writable c, 10) ∷ (leb maxFrame n, 3) ∷ [])
+
+abbrev pub headerBytes : ℕ → ℕ → ℕ → ℕ → List ℕ
+headerBytes round kind bit count = wordBytes round ++ (kind ∷ bit ∷ halfBytes count)
+
+unfoldable pub frameBytes : Content → List ℕ
+frameBytes c = headerBytes (c .round) (kindSaid (c .said)) (bitSaid (c .said)) (length (c .numbers)) ++ wordsBytes (c .numbers)
+
+-- what `write_frame` promises of its answer r and of the buffer, `before` the call and `after` it
+pub record FrameWrites (c : Content) (before : List ℕ) (r : Written) (after : List ℕ) : Type 0 where
+  pub refusal : r .refusal ≡ writeRefusal c (length before)
+  pub written : r .length ≡ cond (eqb (writeRefusal c (length before)) 0) (length (frameBytes c)) 0
+  pub output :
+      after ≡ cond (eqb (writeRefusal c (length before)) 0) (frameBytes c ++ drop (length (frameBytes c)) before) before

@@ -1,0 +1,6 @@
+-- What the crate's contracts cite. Each file opens with the section of document 01 that it renders.
+pub mod Limits
+pub mod Words
+pub mod Numbers
+pub mod Refusal
+pub mod Frame

@@ -1,0 +1,13 @@
+// Offsets, widths and limits of the two formats, as specs/Limits.antt has them.
+
+// Frames: the header's length, a number's width, the fields' offsets.
+pub const FRAME_HEADER: usize = 8;
+pub const NUMBER_WIDTH: usize = 4;
+pub const KIND_AT: usize = 4;
+pub const BIT_AT: usize = 5;
+pub const COUNT_AT: usize = 6;
+
+// Frames: the most numbers, the longest frame, the last round.
+pub const MAX_NUMBERS: usize = 64;
+pub const MAX_FRAME: usize = 264;
+pub const LAST_ROUND: u32 = 195;
