@@ -17,7 +17,7 @@ use mathlib.Core.Path.{_≡_}
 use lib.Dec.{leb, eqb}
 use lib.ListN.{length, getD, drop}
 use Rattle.wire.specs.Limits.{frameHeader, numberWidth, kindAt, bitAt, countAt, maxNumbers, maxFrame, lastRound}
-use Rattle.wire.specs.Words.{halfAt, wordAt, halfBytes, wordBytes, words, wordsBytes}
+use Rattle.wire.specs.Words.{halfAt, wordAt, halfBytes, wordBytes, wordsAt, wordsBytes}
 use Rattle.wire.specs.Numbers.{rising, stored}
 use Rattle.wire.specs.Refusal.{firstFailed}
 use Rattle.wire.specs.declared.frame.Choice.{Choice}
@@ -33,7 +33,7 @@ use Rattle.wire.specs.declared.frame.Written.{Written}
 -- ---- kinds and bits
 
 -- 1 in round 1, 2 in round 2, then 3, 4, 5 in rounds 3 + 3r, 4 + 3r, 5 + 3r
-abbrev pub kindOf : ℕ → ℕ
+unfoldable pub kindOf : ℕ → ℕ
 kindOf t = cond (eqb t 1) 1 (cond (eqb t 2) 2 (3 + t % 3))
 
 abbrev pub bitChosen : Choice → ℕ
@@ -55,10 +55,10 @@ bitSaid (Proposal c) = bitChosen c
 bitSaid (Opinion c) = bitChosen c
 
 -- what byte 5 of a proposal or an opinion stands for
-abbrev pub chosenBy : ℕ → Choice
+unfoldable pub chosenBy : ℕ → Choice
 chosenBy b = cond (eqb b 2) None (Bit b)
 
-abbrev pub saidBy : ℕ → ℕ → Said
+unfoldable pub saidBy : ℕ → ℕ → Said
 saidBy k b =
     cond (eqb k 1) Init
     (cond (eqb k 2) Roster
@@ -67,11 +67,11 @@ saidBy k b =
     (Opinion (chosenBy b)))))
 
 -- "value 0 or 1; propose and turn 0, 1 or 2 (none); init and roster 2"
-abbrev pub bitFits : ℕ → ℕ → Bool
+unfoldable pub bitFits : ℕ → ℕ → Bool
 bitFits k b = cond (leb k 2) (eqb b 2) (cond (eqb k 3) (leb b 1) (leb b 2))
 
 -- "0 to 64; 0 unless roster or turn"
-abbrev pub maxCount : ℕ → ℕ
+unfoldable pub maxCount : ℕ → ℕ
 maxCount k = cond (eqb k 2) maxNumbers (cond (eqb k 5) maxNumbers 0)
 
 -- ---- content
@@ -87,18 +87,18 @@ abbrev pub countOf : List ℕ → ℕ
 countOf s = halfAt s countAt
 
 abbrev pub numbersOf : List ℕ → List ℕ
-numbersOf s = words (countOf s) (drop frameHeader s)
+numbersOf s = wordsAt s frameHeader (countOf s)
 
-abbrev pub lengthFits : List ℕ → Bool
+unfoldable pub lengthFits : List ℕ → Bool
 lengthFits s = leb frameHeader (length s) && eqb (length s) (frameHeader + numberWidth * countOf s)
 
-abbrev pub roundFits : ℕ → Bool
+unfoldable pub roundFits : ℕ → Bool
 roundFits t = leb 1 t && leb t lastRound
 
-abbrev pub headFits : List ℕ → ℕ → Bool
+unfoldable pub headFits : List ℕ → ℕ → Bool
 headFits s t = roundFits t && eqb (wordAt s 0) t && eqb (getD s kindAt 0) (kindOf t)
 
-abbrev pub bodyFits : List ℕ → ℕ → Bool
+unfoldable pub bodyFits : List ℕ → ℕ → Bool
 bodyFits s t = bitFits (kindOf t) (getD s bitAt 0) && leb (countOf s) (maxCount (kindOf t)) && rising 0 (numbersOf s)
 
 -- each of the three has a number of its own to come, tested in this order

@@ -1,6 +1,7 @@
--- What the crate's contracts cite. Each file opens with the section of document 01 that it renders.
+-- What the crate's contracts cite. Each file opens with the section of document 01 that it renders; the laws stand apart, below `Laws`.
 pub mod Limits
 pub mod Words
 pub mod Numbers
 pub mod Refusal
 pub mod Frame
+pub mod Laws

@@ -1,14 +1,15 @@
 // Frames: what a controller sends in a round. The layout is that of document 01, "Frames"; specs/Frame.antt says what each call answers.
 ghost use mathlib.Core.Path.{_≡_};
-ghost use mathlib.Core.Bool.{true, cond};
+ghost use mathlib.Core.Bool.{cond};
 ghost use mathlib.Core.List.{[]};
 ghost use mathlib.Core.Option.{some, none};
 ghost use Prim.Native.Nat.{_+_, _*_, _≤_};
 ghost use lib.ListN.{length};
 ghost use lib.Seq.{sets};
+ghost use Rattle.wire.specs.Limits.{frameHeader, numberWidth, maxNumbers};
 ghost use Rattle.wire.specs.Numbers.{rising, stored};
-ghost use Rattle.wire.specs.Words.{words, wordsBytes};
-ghost use Rattle.wire.specs.Frame.{kindOf, chosenBy, saidBy, bitFits, maxCount, numbersOf, contentOf, readStored, lengthFits, headFits, bodyFits, roundFits, FrameReads, bitChosen, kindSaid, bitSaid, chosenFits, saidFits, writable, headerBytes, FrameWrites};
+ghost use Rattle.wire.specs.Words.{wordsAt, wordsBytes};
+ghost use Rattle.wire.specs.Frame.{kindOf, chosenBy, saidBy, bitFits, maxCount, countOf, contentOf, readStored, lengthFits, headFits, bodyFits, roundFits, FrameReads, bitChosen, kindSaid, bitSaid, chosenFits, saidFits, writable, headerBytes, FrameWrites};
 use crate::limits::{BIT_AT, COUNT_AT, FRAME_HEADER, KIND_AT, LAST_ROUND, MAX_FRAME, MAX_NUMBERS, NUMBER_WIDTH};
 use crate::word::{half, put_half, put_word, word};
 
@@ -120,5 +121,264 @@ fn bit_fits(kind: u8, bit: u8) -> bool
         bit <= 1
     } else {
         bit <= 2
+    }
+}
+
+// The answer for bytes that are void.
+fn void() -> FrameRead
+    ensures { λ r. ⌜ r ≡ readStored none ⌝ }
+{
+    FrameRead {
+        read: Read::Void,
+        numbers: Numbers {
+            len: 0,
+            at: [0; MAX_NUMBERS],
+        },
+    }
+}
+
+// A frame's numbers, and whether they rise strictly from above 0. Where they do not, the list is empty.
+struct NumbersRead {
+    rise: bool,
+    numbers: Numbers,
+}
+
+fn read_numbers(bytes: &[u8], count: usize) -> NumbersRead
+    requires { ⌜ (length (now bytes) ≡ frameHeader + numberWidth * count) × (count ≤ maxNumbers) ⌝ }
+    ensures { λ r. ⌜ (r .rise ≡ rising 0 (wordsAt (now (bytes .entry)) frameHeader count)) × (r .numbers ≡ cond (r .rise) (stored (wordsAt (now (bytes .entry)) frameHeader count)) (stored [])) ⌝ }
+{
+    let mut at = [0u32; MAX_NUMBERS];
+    let mut last = 0;
+    let mut i = 0;
+    while i < count {
+        let x = word(bytes, FRAME_HEADER + NUMBER_WIDTH * i);
+        if x <= last {
+            return NumbersRead {
+                rise: false,
+                numbers: Numbers {
+                    len: 0,
+                    at: [0; MAX_NUMBERS],
+                },
+            };
+        }
+        at[i] = x;
+        last = x;
+        i += 1;
+    }
+    NumbersRead {
+        rise: true,
+        numbers: Numbers { len: count, at },
+    }
+}
+
+fn length_fits(bytes: &[u8]) -> bool
+    ensures { λ r. ⌜ r ≡ lengthFits (now (bytes .entry)) ⌝ }
+{
+    if FRAME_HEADER <= bytes.len() {
+        let count = half(bytes, COUNT_AT);
+        bytes.len() == FRAME_HEADER + NUMBER_WIDTH * count
+    } else {
+        false
+    }
+}
+
+fn head_fits(bytes: &[u8], round: u32) -> bool
+    requires { ⌜ frameHeader ≤ length (now bytes) ⌝ }
+    ensures { λ r. ⌜ r ≡ headFits (now (bytes .entry)) round ⌝ }
+{
+    if round_fits(round) {
+        if word(bytes, 0) == round {
+            let kind = bytes[KIND_AT];
+            kind == kind_of(round)
+        } else {
+            false
+        }
+    } else {
+        false
+    }
+}
+
+// The content of bytes whose length, round and kind fit.
+fn read_body(bytes: &[u8], round: u32) -> FrameRead
+    requires { ⌜ length (now bytes) ≡ frameHeader + numberWidth * countOf (now bytes) ⌝ }
+    ensures { λ r. ⌜ r ≡ readStored (cond (bodyFits (now (bytes .entry)) round) (some (contentOf (now (bytes .entry)) round)) none) ⌝ }
+{
+    let kind = kind_of(round);
+    let bit = bytes[BIT_AT];
+    let count = half(bytes, COUNT_AT);
+    if bit_fits(kind, bit) {
+        if count <= max_count(kind) {
+            let list = read_numbers(bytes, count);
+            let rise = list.rise;
+            if rise {
+                let numbers = list.numbers;
+                FrameRead {
+                    read: Read::Valid(Frame {
+                        round,
+                        said: said_by(kind, bit),
+                    }),
+                    numbers,
+                }
+            } else {
+                void()
+            }
+        } else {
+            void()
+        }
+    } else {
+        void()
+    }
+}
+
+// The content of bytes in a round, or void (11): for any bytes and any round.
+pub fn read_frame(bytes: &[u8], round: u32) -> FrameRead
+    ensures { λ r. ⌜ FrameReads (now (bytes .entry)) round r ⌝ }
+{
+    if length_fits(bytes) {
+        if head_fits(bytes, round) {
+            read_body(bytes, round)
+        } else {
+            void()
+        }
+    } else {
+        void()
+    }
+}
+
+fn bit_chosen(choice: Choice) -> u8
+    ensures { λ r. ⌜ r ≡ bitChosen choice ⌝ }
+{
+    match choice {
+        Choice::Bit(b) => b,
+        Choice::None => 2,
+    }
+}
+
+fn kind_said(said: Said) -> u8
+    ensures { λ r. ⌜ r ≡ kindSaid said ⌝ }
+{
+    match said {
+        Said::Init => 1,
+        Said::Roster => 2,
+        Said::Value(_) => 3,
+        Said::Proposal(_) => 4,
+        Said::Opinion(_) => 5,
+    }
+}
+
+fn bit_said(said: Said) -> u8
+    ensures { λ r. ⌜ r ≡ bitSaid said ⌝ }
+{
+    match said {
+        Said::Init => 2,
+        Said::Roster => 2,
+        Said::Value(b) => b,
+        Said::Proposal(c) => bit_chosen(c),
+        Said::Opinion(c) => bit_chosen(c),
+    }
+}
+
+fn chosen_fits(choice: Choice) -> bool
+    ensures { λ r. ⌜ r ≡ chosenFits choice ⌝ }
+{
+    match choice {
+        Choice::Bit(b) => b <= 1,
+        Choice::None => true,
+    }
+}
+
+fn said_fits(said: Said) -> bool
+    ensures { λ r. ⌜ r ≡ saidFits said ⌝ }
+{
+    match said {
+        Said::Init => true,
+        Said::Roster => true,
+        Said::Value(b) => b <= 1,
+        Said::Proposal(c) => chosen_fits(c),
+        Said::Opinion(c) => chosen_fits(c),
+    }
+}
+
+// Whether numbers rise strictly from above 0.
+fn rise(numbers: &[u32]) -> bool
+    ensures { λ r. ⌜ r ≡ rising 0 (now (numbers .entry)) ⌝ }
+{
+    let mut last = 0;
+    let mut i = 0;
+    while i < numbers.len() {
+        let x = numbers[i];
+        if x <= last {
+            return false;
+        }
+        last = x;
+        i += 1;
+    }
+    true
+}
+
+fn fits(frame: Frame, numbers: &[u32]) -> bool
+    ensures { λ r. ⌜ r ≡ writable (record { round = frame .round; said = frame .said; numbers = now (numbers .entry) }) ⌝ }
+{
+    let round = frame.round;
+    let said = frame.said;
+    let kind = kind_said(said);
+    if round_fits(round) {
+        if kind == kind_of(round) {
+            if said_fits(said) {
+                if numbers.len() <= max_count(kind) {
+                    rise(numbers)
+                } else {
+                    false
+                }
+            } else {
+                false
+            }
+        } else {
+            false
+        }
+    } else {
+        false
+    }
+}
+
+fn put_header(out: &mut [u8], frame: Frame, count: usize)
+    requires { ⌜ (frameHeader ≤ length (now out)) × (count ≤ maxNumbers) ⌝ }
+    ensures { λ r. ⌜ now (out .exit) ≡ sets (now (out .entry)) 0 (headerBytes (frame .round) (kindSaid (frame .said)) (bitSaid (frame .said)) count) ⌝ }
+{
+    let round = frame.round;
+    let said = frame.said;
+    put_word(out, 0, round);
+    out[KIND_AT] = kind_said(said);
+    out[BIT_AT] = bit_said(said);
+    put_half(out, COUNT_AT, count);
+}
+
+fn put_numbers(out: &mut [u8], numbers: &[u32])
+    requires { ⌜ frameHeader + numberWidth * length (now numbers) ≤ length (now out) ⌝ }
+    ensures { λ r. ⌜ now (out .exit) ≡ sets (now (out .entry)) frameHeader (wordsBytes (now (numbers .entry))) ⌝ }
+{
+    let mut i = 0;
+    while i < numbers.len() {
+        put_word(out, FRAME_HEADER + NUMBER_WIDTH * i, numbers[i]);
+        i += 1;
+    }
+}
+
+// Writes a frame at the start of `out`, or refuses (10, then 3) and leaves `out` as it is.
+pub fn write_frame(frame: Frame, numbers: &[u32], out: &mut [u8]) -> Written
+    ensures { λ r. ⌜ FrameWrites (record { round = frame .round; said = frame .said; numbers = now (numbers .entry) }) (now (out .entry)) r (now (out .exit)) ⌝ }
+{
+    if fits(frame, numbers) {
+        if out.len() < MAX_FRAME {
+            return Written { refusal: 3, length: 0 };
+        }
+        put_header(out, frame, numbers.len());
+        put_numbers(out, numbers);
+        Written {
+            refusal: 0,
+            length: FRAME_HEADER + NUMBER_WIDTH * numbers.len(),
+        }
+    } else {
+        Written { refusal: 10, length: 0 }
     }
 }

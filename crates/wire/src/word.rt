@@ -32,8 +32,8 @@ pub(crate) fn word(s: &[u8], at: usize) -> u32
 }
 
 // Stores a number in the two bytes at `at`.
-pub(crate) fn put_half(s: &mut [u8], at: usize, x: u16)
-    requires { ⌜ at + 2 ≤ length (now s) ⌝ }
+pub(crate) fn put_half(s: &mut [u8], at: usize, x: usize)
+    requires { ⌜ (at + 2 ≤ length (now s)) × (x < 65536) ⌝ }
     ensures { λ r. ⌜ now (s .exit) ≡ sets (now (s .entry)) at (halfBytes x) ⌝ }
 {
     s[at] = (x / 256) as u8;

@@ -1,3 +1,4 @@
+use Rattle.wire.specs.Frame.{kindOf}
 use borrow.Author.Needs.{needs}
 use Rattle.wire.proofs.Tests.{tests}
 use Rattle.wire.proofs.frame.kind_of.Statement.{statement}
@@ -15,12 +16,15 @@ cast-result c = search needs
 
 -- src/frame.rt:59:1
 returns : tie.Need-returns
+unfolding kindOf
 returns c = search (tests, needs)
 -- src/frame.rt:59:1
 returns-2 : tie.Need-returns-2
+unfolding kindOf
 returns-2 c = search (tests, needs)
 -- src/frame.rt:59:1
 returns-3 : tie.Need-returns-3
+unfolding kindOf
 returns-3 c = search (tests, needs)
 pub kind-of-spec : {M : Type 1} → statement M
 kind-of-spec = tie.close (tie.spec add-result cast-result returns returns-2 returns-3)

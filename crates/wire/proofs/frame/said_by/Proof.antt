@@ -1,3 +1,4 @@
+use Rattle.wire.specs.Frame.{saidBy}
 use borrow.Author.Needs.{needs}
 use Rattle.wire.proofs.Tests.{tests}
 use Rattle.wire.proofs.frame.said_by.Statement.{statement}
@@ -16,18 +17,23 @@ chosen-by-requires-2 c κs = search needs
 
 -- src/frame.rt:98:1
 returns : tie.Need-returns
+unfolding saidBy
 returns c = search (tests, needs)
 -- src/frame.rt:98:1
 returns-2 : tie.Need-returns-2
+unfolding saidBy
 returns-2 c = search (tests, needs)
 -- src/frame.rt:98:1
 returns-3 : tie.Need-returns-3
+unfolding saidBy
 returns-3 c = search (tests, needs)
 -- src/frame.rt:98:1
 returns-4 : tie.Need-returns-4
+unfolding saidBy
 returns-4 c = search (tests, needs)
 -- src/frame.rt:98:1
 returns-5 : tie.Need-returns-5
+unfolding saidBy
 returns-5 c = search (tests, needs)
 pub said-by-spec : {M : Type 1} → statement M
 said-by-spec =

@@ -1,0 +1,52 @@
+-- `wire::frame::put_header` meets its contract: the four stores, one after the other, are one run of stores from the first byte on.
+use borrow.Author.Needs.{needs}
+use native.Mathlib.Omega.{arith}
+use mathlib.Core.Path.{_≡_, sym, _∙_, ap}
+use lib.ListN.{length, length-set}
+use lib.Seq.{length-sets}
+use Rattle.wire.proofs.frame.put_header.Statement.{statement}
+use Rattle.wire.proofs.frame.put_header.Tie as tie
+use Rattle.wire.proofs.frame.put_header.Reads as reads
+use Rattle.wire.proofs.frame.put_header.Lts as lts
+use Rattle.wire.proofs.frame.bit_said.Reads as bit-said-reads
+use Rattle.wire.proofs.frame.kind_said.Reads as kind-said-reads
+use Rattle.wire.proofs.word.put_half.Reads as put-half-reads
+use Rattle.wire.proofs.word.put_word.Reads as put-word-reads
+
+put-word-requires : tie.Need-put-word-requires
+put-word-requires c κs = search needs
+
+kind-said-requires : tie.Need-kind-said-requires
+kind-said-requires c κs = search needs
+
+slice-write-out : tie.Need-slice-write-out
+slice-write-out c = search needs
+
+bit-said-requires : tie.Need-bit-said-requires
+bit-said-requires c κs = search needs
+
+slice-write-out-2 : tie.Need-slice-write-out-2
+slice-write-out-2 c = simp length-set (omega arith)
+
+put-half-requires : tie.Need-put-half-requires
+put-half-requires c κs = simp length-set (omega arith)
+
+same-length : tie.Need-same-length
+same-length c = simp length-set at (c .before .before .put-half .kept .0)
+    ∙ c .before .before .before .before .before .before .before .before .put-word .kept .0
+
+returns : tie.Need-returns
+returns c = cc
+
+pub put-header-spec : {M : Type 1} → statement M
+put-header-spec =
+    tie.close
+    (tie.spec
+    put-word-requires
+    kind-said-requires
+    slice-write-out
+    bit-said-requires
+    slice-write-out-2
+    put-half-requires
+    same-length
+    returns)

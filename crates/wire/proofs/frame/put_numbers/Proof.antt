@@ -1,0 +1,104 @@
+-- `wire::frame::put_numbers` meets its contract: what is left to store, stored behind what was stored, gives the whole run of stores.
+use Prim.Native.Nat.{ℕ, _≤_, _<_, _-_, _+_, _*_}
+use mathlib.Core.List.{List, [], _∷_}
+use mathlib.Core.Path.{_≡_, refl, sym, ap, _∙_}
+use borrow.Author.Needs.{needs}
+use denote.Ref.{now}
+use native.Mathlib.Numerals.{add-one}
+use native.Mathlib.Omega.{arith}
+use lib.ListN.{length, drop, getD, set, drop-of-length-le}
+use lib.Seq.{sets, drop-cons}
+use Rattle.wire.specs.Limits.{frameHeader, numberWidth}
+use Rattle.wire.specs.Words.{wordBytes, wordsBytes}
+use Rattle.wire.proofs.Stores.{sets-join}
+use Rattle.wire.proofs.frame.put_numbers.Statement.{statement}
+use Rattle.wire.proofs.frame.put_numbers.Tie as tie
+use Rattle.wire.proofs.frame.put_numbers.Reads as reads
+use Rattle.wire.proofs.frame.put_numbers.Lts as lts
+use Rattle.wire.proofs.word.put_word.Reads as put-word-reads
+
+abbrev Inv-loop : tie.InvT-loop
+Inv-loop out₀ numbers i₀ out i =
+    (i ≤ length numbers)
+    × (length out ≡ length out₀)
+    × (sets out (frameHeader + numberWidth * i) (wordsBytes (drop i numbers)) ≡ sets out₀ frameHeader (wordsBytes numbers))
+
+abbrev μ-loop : tie.MeasureT-loop
+μ-loop out₀ numbers i₀ out i = length numbers - i
+
+-- one turn stores one number and leaves the rest
+turn : (l out last : List ℕ) (i : ℕ) → i < length l → last ≡ sets out (frameHeader + numberWidth * i) (wordBytes (getD l i 0))
+    → sets last (frameHeader + numberWidth * (i + 1)) (wordsBytes (drop (i + 1) l)) ≡ sets out (frameHeader + numberWidth * i) (wordsBytes (drop i l))
+turn l out last i h e =
+    let at = frameHeader + numberWidth * i in
+    let next : frameHeader + numberWidth * (i + 1) ≡ at + length (wordBytes (getD l i 0)) = omega arith in
+    let split : drop i l ≡ getD l i 0 ∷ drop (i + 1) l = rw add-one (drop-cons l i 0 h) in
+    rw (next, e, split) (sets-join out at (wordBytes (getD l i 0)) (wordsBytes (drop (i + 1) l)))
+
+-- src/frame.rt:361:5
+loop-holds : tie.Need-loop-holds Inv-loop μ-loop
+loop-holds c = search needs
+
+-- src/frame.rt:362:38
+mul-put-word : tie.Need-mul-put-word Inv-loop μ-loop
+mul-put-word c = search needs
+
+-- src/frame.rt:362:23
+add-put-word : tie.Need-add-put-word Inv-loop μ-loop
+add-put-word c = search needs
+
+-- src/frame.rt:362:56
+mul-put-word-2 : tie.Need-mul-put-word-2 Inv-loop μ-loop
+mul-put-word-2 c = search needs
+
+-- src/frame.rt:362:56
+shared-slice-read-put-word : tie.Need-shared-slice-read-put-word Inv-loop μ-loop
+shared-slice-read-put-word c = search needs
+
+-- src/frame.rt:362:9
+put-word-requires : tie.Need-put-word-requires Inv-loop μ-loop
+put-word-requires c κs = search needs
+
+-- src/frame.rt:363:9
+add-i : tie.Need-add-i Inv-loop μ-loop
+add-i c = search needs
+
+-- src/frame.rt:361:5
+loop-less : tie.Need-loop-less Inv-loop μ-loop
+loop-less c = search needs
+
+-- src/frame.rt:361:5
+loop-again : tie.Need-loop-again Inv-loop μ-loop
+loop-again c =
+    let v = c .before .before .before .before .before .before .loop in
+    let l = now (c .before .before .before .before .before .before .before .before .before .args .numbers) in
+    (search needs, search needs, turn l (v .out) (c .before .before .put-word .last .0) (v .i) (search needs) (c .before .before .put-word .ensures) ∙ v .inv .2)
+
+-- src/frame.rt:356:1
+same-length : tie.Need-same-length Inv-loop μ-loop
+same-length c = search needs
+
+-- src/frame.rt:356:1
+returns : tie.Need-returns Inv-loop μ-loop
+returns c =
+    let v = c .before .loop in
+    let e : drop (v .i) (now (c .before .before .before .before .args .numbers)) ≡ [] = drop-of-length-le _ {i = v .i} (search needs) in
+    rw e at (v .inv .2)
+
+pub put-numbers-spec : {M : Type 1} → statement M
+put-numbers-spec =
+    tie.close
+    (tie.spec
+    Inv-loop
+    μ-loop
+    loop-holds
+    mul-put-word
+    add-put-word
+    mul-put-word-2
+    shared-slice-read-put-word
+    put-word-requires
+    add-i
+    loop-less
+    loop-again
+    same-length
+    returns)
