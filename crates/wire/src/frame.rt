@@ -316,7 +316,7 @@ fn rise(numbers: &[u32]) -> bool
     true
 }
 
-fn fits(frame: Frame, numbers: &[u32]) -> bool
+fn writable(frame: Frame, numbers: &[u32]) -> bool
     ensures { λ r. ⌜ r ≡ writable (record { round = frame .round; said = frame .said; numbers = now (numbers .entry) }) ⌝ }
 {
     let round = frame.round;
@@ -368,7 +368,7 @@ fn put_numbers(out: &mut [u8], numbers: &[u32])
 pub fn write_frame(frame: Frame, numbers: &[u32], out: &mut [u8]) -> Written
     ensures { λ r. ⌜ FrameWrites (record { round = frame .round; said = frame .said; numbers = now (numbers .entry) }) (now (out .entry)) r (now (out .exit)) ⌝ }
 {
-    if fits(frame, numbers) {
+    if writable(frame, numbers) {
         if out.len() < MAX_FRAME {
             return Written { refusal: 3, length: 0 };
         }

@@ -1,3 +1,10 @@
+-- `wire::frame::read_frame` meets its contract: the two tests, and what `read_body` says of the third, give `content` its value.
+use mathlib.Core.Bool.{true}
+use mathlib.Core.Path.{_≡_, sym, _∙_}
+use native.Mathlib.Omega.{arith}
+use denote.Ref.{now}
+use Rattle.wire.specs.Frame.{lengthFits}
+use Rattle.wire.specs.Laws.Frame.{length-fits, content-is, frame-reads}
 use borrow.Author.Needs.{needs}
 use Rattle.wire.proofs.frame.read_frame.Statement.{statement}
 use Rattle.wire.proofs.frame.read_frame.Tie as tie
@@ -8,17 +15,20 @@ use Rattle.wire.proofs.frame.length_fits.Reads as length-fits-reads
 use Rattle.wire.proofs.frame.read_body.Reads as read-body-reads
 use Rattle.wire.proofs.frame.void.Reads as void-reads
 
+length-passed : (c : tie.Then1) → lengthFits (now (c .before .before .before .args .bytes)) ≡ true
+length-passed c = sym (c .before .length-fits .ensures) ∙ c .if1 .taken
+
 -- src/frame.rt:237:8
 length-fits-requires : tie.Need-length-fits-requires
 length-fits-requires c κs = search needs
 
 -- src/frame.rt:238:12
 head-fits-requires : tie.Need-head-fits-requires
-head-fits-requires c κs = ?
+head-fits-requires c κs = omega (arith, length-fits _ (length-passed c))
 
 -- src/frame.rt:239:13
 read-body-requires : tie.Need-read-body-requires
-read-body-requires c κs = ?
+read-body-requires c κs = length-fits _ (length-passed (c .before .before))
 
 -- src/frame.rt:241:13
 void-requires : tie.Need-void-requires
@@ -30,15 +40,15 @@ void-requires-2 c κs = search needs
 
 -- src/frame.rt:234:1
 returns : tie.Need-returns
-returns c = ?
+returns c = frame-reads _ _ _ (rw (content-is, length-passed (c .before .before .before), sym (c .before .before .head-fits .ensures) ∙ c .before .if2 .taken) (c .read-body .ensures))
 
 -- src/frame.rt:234:1
 returns-2 : tie.Need-returns-2
-returns-2 c = ?
+returns-2 c = frame-reads _ _ _ (rw (content-is, length-passed (c .before .before .before), sym (c .before .before .head-fits .ensures) ∙ c .before .if2 .left) (c .void .ensures))
 
 -- src/frame.rt:234:1
 returns-3 : tie.Need-returns-3
-returns-3 c = ?
+returns-3 c = frame-reads _ _ _ (rw (content-is, sym (c .before .before .length-fits .ensures) ∙ c .before .if1 .left) (c .void2 .ensures))
 
 pub read-frame-spec : {M : Type 1} → statement M
 read-frame-spec =

@@ -1,27 +1,74 @@
+-- `wire::frame::write_frame` meets its contract: the header's stores and the numbers' stores are the frame's bytes in front of what stood behind
+-- them, and a refusal stores nothing.
+use Prim.Native.Nat.{ℕ, _+_, _*_, _≤_, _<_}
+use mathlib.Core.Bool.{true, false}
+use mathlib.Core.List.{List, _++_}
+use mathlib.Core.Path.{_≡_, sym, _∙_}
+use borrow.Author.Tests.{le-leb, lt-leb}
+use denote.Ref.{now}
+use native.Mathlib.Nat.{zero-add}
+use native.Mathlib.Omega.{arith}
+use lib.ListN.{length, drop}
+use lib.Seq.{sets, sets-eq}
+use Rattle.wire.specs.Limits.{frameHeader, numberWidth, maxFrame}
+use Rattle.wire.specs.Words.{wordsBytes}
+use Rattle.wire.specs.Frame.{Content, kindSaid, bitSaid, writable, writeRefusal, headerBytes, frameBytes, FrameWrites}
+use Rattle.wire.specs.Laws.Frame.{writable-count, frame-length}
+use Rattle.wire.proofs.Stores.{sets-join}
 use borrow.Author.Needs.{needs}
 use Rattle.wire.proofs.frame.write_frame.Statement.{statement}
 use Rattle.wire.proofs.frame.write_frame.Tie as tie
 use Rattle.wire.proofs.frame.write_frame.Reads as reads
 use Rattle.wire.proofs.frame.write_frame.Lts as lts
-use Rattle.wire.proofs.frame.fits.Reads as fits-reads
 use Rattle.wire.proofs.frame.put_header.Reads as put-header-reads
 use Rattle.wire.proofs.frame.put_numbers.Reads as put-numbers-reads
+use Rattle.wire.proofs.frame.writable.Reads as writable-reads
+
+module _ (f : Content) (b : List ℕ) where
+  not-allowed : writable f ≡ false → FrameWrites f b (record { refusal = 10; length = 0 }) b
+  unfolding writeRefusal
+  not-allowed h = record { refusal = rw h; written = rw h; output = rw h }
+
+  no-room : writable f ≡ true → length b < maxFrame → FrameWrites f b (record { refusal = 3; length = 0 }) b
+  unfolding writeRefusal
+  no-room h l =
+      let e = lt-leb maxFrame (length b) l in
+      record { refusal = rw (h, e); written = rw (h, e); output = rw (h, e) }
+
+  stored : length (frameBytes f) ≤ length b
+      → sets (sets b 0 (headerBytes (f .round) (kindSaid (f .said)) (bitSaid (f .said)) (length (f .numbers)))) frameHeader (wordsBytes (f .numbers))
+      ≡ frameBytes f ++ drop (length (frameBytes f)) b
+  unfolding frameBytes
+  stored l =
+      sets-join b 0 (headerBytes (f .round) (kindSaid (f .said)) (bitSaid (f .said)) (length (f .numbers))) (wordsBytes (f .numbers))
+      ∙ sets-eq (frameBytes f) b 0 (rw zero-add l)
+      ∙ rw (zero-add (length (frameBytes f)))
+
+  wrote : (after : List ℕ) → writable f ≡ true → maxFrame ≤ length b
+      → after ≡ sets (sets b 0 (headerBytes (f .round) (kindSaid (f .said)) (bitSaid (f .said)) (length (f .numbers)))) frameHeader (wordsBytes (f .numbers))
+      → FrameWrites f b (record { refusal = 0; length = frameHeader + numberWidth * length (f .numbers) }) after
+  unfolding writeRefusal
+  wrote after h l s =
+      let e = le-leb maxFrame (length b) l in
+      let n = frame-length f in
+      let m = writable-count f h in
+      record { refusal = rw (h, e); written = rw (h, e) (sym n); output = rw (h, e) (s ∙ stored (omega arith)) }
 
 -- src/frame.rt:371:8
-fits-requires : tie.Need-fits-requires
-fits-requires c κs = search needs
+writable-requires : tie.Need-writable-requires
+writable-requires c κs = search needs
 
 -- src/frame.rt:373:13
 returns : tie.Need-returns
-returns c = ?
+returns c = no-room _ _ (sym (c .before .before .writable .ensures) ∙ c .before .if1 .taken) (c .if2 .taken)
 
 -- src/frame.rt:375:9
 put-header-requires : tie.Need-put-header-requires
-put-header-requires c κs = ?
+put-header-requires c κs = (search needs, writable-count _ (sym (c .before .before .before .writable .ensures) ∙ c .before .before .if1 .taken))
 
 -- src/frame.rt:376:9
 put-numbers-requires : tie.Need-put-numbers-requires
-put-numbers-requires c κs = ?
+put-numbers-requires c κs = omega (arith, writable-count _ (sym (c .before .before .before .before .before .before .before .writable .ensures) ∙ c .before .before .before .before .before .before .if1 .taken), c .before .before .before .put-header .kept .0)
 
 -- src/frame.rt:379:36
 mul-t13 : tie.Need-mul-t13
@@ -37,17 +84,19 @@ same-length c = search needs
 
 -- src/frame.rt:368:1
 returns-2 : tie.Need-returns-2
-returns-2 c = ?
+returns-2 c =
+    wrote _ _ _ (sym (c .before .before .before .before .before .before .before .before .before .before .writable .ensures) ∙ c .before .before .before .before .before .before .before .before .before .if1 .taken) (c .before .before .before .before .before .before .before .before .if2 .left)
+    (c .before .before .put-numbers .ensures ∙ rw (c .before .before .before .before .before .before .put-header .ensures))
 
 -- src/frame.rt:368:1
 returns-3 : tie.Need-returns-3
-returns-3 c = ?
+returns-3 c = not-allowed _ _ (sym (c .before .writable .ensures) ∙ c .if1 .left)
 
 pub write-frame-spec : {M : Type 1} → statement M
 write-frame-spec =
     tie.close
     (tie.spec
-    fits-requires
+    writable-requires
     returns
     put-header-requires
     put-numbers-requires

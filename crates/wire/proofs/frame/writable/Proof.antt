@@ -1,14 +1,14 @@
--- `wire::frame::fits` meets its contract: each test that was passed, and the first that was not, gives `writable` its value.
+-- `wire::frame::writable` meets its contract: each test that was passed, and the first that was not, gives `writable` its value.
 use mathlib.Core.Bool.{true}
 use mathlib.Core.Path.{_≡_, sym, ap, _∙_}
 use borrow.Author.Tests.{le-leb, lt-leb, eq-eqb, ne-eqb}
 use lib.Dec.{eqb}
 use Rattle.wire.specs.Frame.{kindOf, kindSaid, saidFits, roundFits, maxCount, writable}
 use borrow.Author.Needs.{needs}
-use Rattle.wire.proofs.frame.fits.Statement.{statement}
-use Rattle.wire.proofs.frame.fits.Tie as tie
-use Rattle.wire.proofs.frame.fits.Reads as reads
-use Rattle.wire.proofs.frame.fits.Lts as lts
+use Rattle.wire.proofs.frame.writable.Statement.{statement}
+use Rattle.wire.proofs.frame.writable.Tie as tie
+use Rattle.wire.proofs.frame.writable.Reads as reads
+use Rattle.wire.proofs.frame.writable.Lts as lts
 use Rattle.wire.proofs.frame.kind_of.Reads as kind-of-reads
 use Rattle.wire.proofs.frame.kind_said.Reads as kind-said-reads
 use Rattle.wire.proofs.frame.max_count.Reads as max-count-reads
@@ -87,8 +87,8 @@ returns-5 : tie.Need-returns-5
 unfolding writable
 returns-5 c = rw (sym (c .before .round-fits .ensures) ∙ c .if1 .left)
 
-pub fits-spec : {M : Type 1} → statement M
-fits-spec =
+pub writable-spec : {M : Type 1} → statement M
+writable-spec =
     tie.close
     (tie.spec
     kind-said-requires
