@@ -4,4 +4,5 @@ pub mod Words
 pub mod Numbers
 pub mod Refusal
 pub mod Frame
+pub mod Tray
 pub mod Laws

@@ -26,3 +26,29 @@ maxFrame = 264
 
 abbrev pub lastRound : ℕ
 lastRound = 195
+
+-- trays: the header's length and its fields' offsets; an entry's width and its fields' offsets
+abbrev pub trayHeader : ℕ
+trayHeader = 8
+
+abbrev pub entriesAt : ℕ
+entriesAt = 4
+
+abbrev pub zeroAt : ℕ
+zeroAt = 6
+
+abbrev pub entryWidth : ℕ
+entryWidth = 8
+
+abbrev pub offsetAt : ℕ
+offsetAt = 4
+
+abbrev pub lengthAt : ℕ
+lengthAt = 6
+
+-- trays: the longest tray, the most entries
+abbrev pub maxTray : ℕ
+maxTray = 65535
+
+abbrev pub maxEntries : ℕ
+maxEntries = 256

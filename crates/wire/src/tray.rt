@@ -1,1 +1,135 @@
-// x
+// Trays: the frames of one round, as a host hands them over. The layout is that of document 01, "Trays"; specs/Tray.antt says what each call
+// answers, outside the directory too.
+ghost use mathlib.Core.Path.{_≡_};
+ghost use Prim.Native.Nat.{_+_, _≤_};
+ghost use lib.Dec.{leb};
+ghost use lib.ListN.{length};
+ghost use Rattle.wire.specs.Frame.{FrameReads};
+ghost use Rattle.wire.specs.Tray.{wellFormed, roundOf, entryCount, entryAt, inDirectory, sender, place, firstPlace, chained, part};
+use crate::frame::{FrameRead, read_frame};
+use crate::limits::{ENTRIES_AT, ENTRY_WIDTH, LENGTH_AT, MAX_ENTRIES, MAX_TRAY, OFFSET_AT, TRAY_HEADER, ZERO_AT};
+use crate::word::{half, word};
+
+// Where an entry's frame lies in the tray.
+pub enum Found {
+    At(usize, usize),
+    Nothing,
+}
+
+// The round in which the tray's frames were sent; 0 for a tray without a header.
+pub fn tray_round(tray: &[u8]) -> u32
+    ensures { λ r. ⌜ r ≡ roundOf (now (tray .entry)) ⌝ }
+{
+    if TRAY_HEADER <= tray.len() { word(tray, 0) } else { 0 }
+}
+
+// How many entries the tray says it has; 0 for a tray without a header.
+pub fn entry_count(tray: &[u8]) -> usize
+    ensures { λ r. ⌜ r ≡ entryCount (now (tray .entry)) ⌝ }
+{
+    if TRAY_HEADER <= tray.len() { half(tray, ENTRIES_AT) } else { 0 }
+}
+
+// Whether entry `i` is counted and lies whole in the tray's bytes.
+fn in_directory(tray: &[u8], i: usize) -> bool
+    ensures { λ r. ⌜ r ≡ inDirectory (now (tray .entry)) i ⌝ }
+{
+    if i < entry_count(tray) {
+        TRAY_HEADER + ENTRY_WIDTH * (i + 1) <= tray.len()
+    } else {
+        false
+    }
+}
+
+// The sender of entry `i`; 0 outside the directory.
+pub fn entry_sender(tray: &[u8], i: usize) -> u32
+    ensures { λ r. ⌜ r ≡ sender (now (tray .entry)) i ⌝ }
+{
+    if in_directory(tray, i) { word(tray, TRAY_HEADER + ENTRY_WIDTH * i) } else { 0 }
+}
+
+// Where the frame of entry `i` lies.
+pub fn entry_place(tray: &[u8], i: usize) -> Found
+    ensures { λ r. ⌜ r ≡ place (now (tray .entry)) i ⌝ }
+{
+    if in_directory(tray, i) {
+        let entry = TRAY_HEADER + ENTRY_WIDTH * i;
+        Found::At(half(tray, entry + OFFSET_AT), half(tray, entry + LENGTH_AT))
+    } else {
+        Found::Nothing
+    }
+}
+
+// Where the frame of a sender's first entry lies: only that one counts.
+pub fn first_place(tray: &[u8], number: u32) -> Found
+    ensures { λ r. ⌜ r ≡ firstPlace (now (tray .entry)) number ⌝ }
+{
+    let count = entry_count(tray);
+    let mut i = 0;
+    while i < count {
+        if entry_sender(tray, i) == number {
+            return entry_place(tray, i);
+        }
+        i += 1;
+    }
+    Found::Nothing
+}
+
+// Whether the frames follow each other without a gap from the directory's end to the tray's end.
+fn frames_follow(tray: &[u8], count: usize) -> bool
+    requires { ⌜ entryAt count ≤ length (now tray) ⌝ }
+    ensures { λ r. ⌜ r ≡ chained (now (tray .entry)) count 0 (entryAt count) ⌝ }
+{
+    let mut end = TRAY_HEADER + ENTRY_WIDTH * count;
+    let mut i = 0;
+    while i < count {
+        let entry = TRAY_HEADER + ENTRY_WIDTH * i;
+        if half(tray, entry + OFFSET_AT) != end {
+            return false;
+        }
+        end += half(tray, entry + LENGTH_AT);
+        i += 1;
+    }
+    end == tray.len()
+}
+
+// Document 01's "well packed", for any bytes.
+pub fn well_formed(tray: &[u8]) -> bool
+    ensures { λ r. ⌜ r ≡ wellFormed (now (tray .entry)) ⌝ }
+{
+    if tray.len() < TRAY_HEADER {
+        return false;
+    }
+    if MAX_TRAY < tray.len() {
+        return false;
+    }
+    let count = entry_count(tray);
+    if MAX_ENTRIES < count {
+        return false;
+    }
+    if half(tray, ZERO_AT) != 0 {
+        return false;
+    }
+    if tray.len() < TRAY_HEADER + ENTRY_WIDTH * count {
+        return false;
+    }
+    frames_follow(tray, count)
+}
+
+// Whether the `len` bytes from `offset` on lie in the tray. No sum is made that could wrap.
+fn lies_in(tray: &[u8], offset: usize, len: usize) -> bool
+    ensures { λ r. ⌜ r ≡ leb (offset + len) (length (now (tray .entry))) ⌝ }
+{
+    if offset <= tray.len() { len <= tray.len() - offset } else { false }
+}
+
+// The frame in the `len` bytes from `offset` on, read in a round. A part that runs past the tray's end is void.
+pub fn read_part(tray: &[u8], offset: usize, len: usize, round: u32) -> FrameRead
+    ensures { λ r. ⌜ FrameReads (part (now (tray .entry)) offset len) round r ⌝ }
+{
+    if lies_in(tray, offset, len) {
+        read_frame(&tray[offset..offset + len], round)
+    } else {
+        read_frame(&tray[0..0], round)
+    }
+}

@@ -1,0 +1,90 @@
+-- Trays: document 01, "Trays".
+--     wellFormed s            the paper's "well packed"
+--     roundOf s               the round in which the tray's frames were sent
+--     entryCount s            how many entries the tray says it has
+--     inDirectory s i         entry i is counted and lies whole in the tray's bytes
+--     sender s i, place s i   the sender of entry i, and where its frame lies; 0 and nothing outside the directory
+--     firstPlace s x          where the frame of x's first entry lies
+--     part s o n              the n bytes from o on; no bytes where they run past the end
+--     entries s               the tray as a list of entries: who sent, and the bytes
+--     firstBytes x es         the bytes of x's first entry: "Only a sender's first entry counts"
+-- Offsets and lengths are added as numbers without a bound, so no sum wraps.
+use Prim.Native.Nat.{ℕ, zero, suc, _+_, _*_}
+use mathlib.Core.Bool.{Bool, true, false, cond, _&&_}
+use mathlib.Core.List.{List, [], _∷_}
+use mathlib.Core.Option.{Option, some, none}
+use lib.Dec.{leb, ltb, eqb}
+use lib.ListN.{length, take, drop}
+use Rattle.wire.specs.Limits.{trayHeader, entriesAt, zeroAt, entryWidth, offsetAt, lengthAt, maxTray, maxEntries}
+use Rattle.wire.specs.Words.{halfAt, wordAt}
+use Rattle.wire.specs.declared.tray.Found.{Found}
+use Rattle.wire.specs.declared.tray.Found.the-variants.{At, Nothing}
+
+-- ---- the header
+
+unfoldable pub roundOf : List ℕ → ℕ
+roundOf s = cond (leb trayHeader (length s)) (wordAt s 0) 0
+
+unfoldable pub entryCount : List ℕ → ℕ
+entryCount s = cond (leb trayHeader (length s)) (halfAt s entriesAt) 0
+
+-- ---- the directory
+
+-- where entry i begins
+abbrev pub entryAt : ℕ → ℕ
+entryAt i = trayHeader + entryWidth * i
+
+abbrev pub offsetOf : List ℕ → ℕ → ℕ
+offsetOf s i = halfAt s (entryAt i + offsetAt)
+
+abbrev pub lengthOf : List ℕ → ℕ → ℕ
+lengthOf s i = halfAt s (entryAt i + lengthAt)
+
+unfoldable pub inDirectory : List ℕ → ℕ → Bool
+inDirectory s i = ltb i (entryCount s) && leb (entryAt (i + 1)) (length s)
+
+unfoldable pub sender : List ℕ → ℕ → ℕ
+sender s i = cond (inDirectory s i) (wordAt s (entryAt i)) 0
+
+unfoldable pub place : List ℕ → ℕ → Found
+place s i = cond (inDirectory s i) (At (offsetOf s i) (lengthOf s i)) Nothing
+
+-- the n entries from entry i on, searched for sender x
+abbrev pub placeFrom : List ℕ → ℕ → ℕ → ℕ → Found
+placeFrom s x zero i = Nothing
+placeFrom s x (suc n) i = cond (eqb (sender s i) x) (place s i) (placeFrom s x n (i + 1))
+
+unfoldable pub firstPlace : List ℕ → ℕ → Found
+firstPlace s x = placeFrom s x (entryCount s) 0
+
+-- ---- well packed
+
+-- the n entries from entry i on: the first frame begins at `at`, each next where the one before ends, and the last ends at the tray's end
+abbrev pub chained : List ℕ → ℕ → ℕ → ℕ → Bool
+chained s zero i at = eqb at (length s)
+chained s (suc n) i at = eqb (offsetOf s i) at && chained s n (i + 1) (at + lengthOf s i)
+
+unfoldable pub wellFormed : List ℕ → Bool
+wellFormed s =
+    leb trayHeader (length s) && leb (length s) maxTray && leb (entryCount s) maxEntries && eqb (halfAt s zeroAt) 0
+    && leb (entryAt (entryCount s)) (length s) && chained s (entryCount s) 0 (entryAt (entryCount s))
+
+-- ---- the tray as a list of entries
+
+unfoldable pub part : List ℕ → ℕ → ℕ → List ℕ
+part s o n = cond (leb (o + n) (length s)) (take n (drop o s)) []
+
+pub record Entry : Type 0 where
+  pub sender : ℕ
+  pub bytes : List ℕ
+
+abbrev pub entriesFrom : List ℕ → ℕ → ℕ → List Entry
+entriesFrom s zero i = []
+entriesFrom s (suc n) i = record { sender = sender s i; bytes = part s (offsetOf s i) (lengthOf s i) } ∷ entriesFrom s n (i + 1)
+
+unfoldable pub entries : List ℕ → List Entry
+entries s = entriesFrom s (entryCount s) 0
+
+abbrev pub firstBytes : ℕ → List Entry → Option (List ℕ)
+firstBytes x [] = none
+firstBytes x (e ∷ es) = cond (eqb (e .sender) x) (some (e .bytes)) (firstBytes x es)
