@@ -10,7 +10,7 @@
 --     frameBytes c              the bytes of content c
 -- Bytes of a list are numbers below 256.
 use Prim.Native.Nat.{ℕ, _+_, _*_, _%_}
-use mathlib.Core.Bool.{Bool, true, false, cond, _&&_}
+use mathlib.Core.Bool.{Bool, true, cond, _&&_}
 use mathlib.Core.List.{List, [], _∷_, _++_}
 use mathlib.Core.Option.{Option, some, none}
 use mathlib.Core.Path.{_≡_}
@@ -24,7 +24,6 @@ use Rattle.wire.specs.declared.frame.Choice.{Choice}
 use Rattle.wire.specs.declared.frame.Choice.the-variants.{Bit, None}
 use Rattle.wire.specs.declared.frame.Said.{Said}
 use Rattle.wire.specs.declared.frame.Said.the-variants.{Init, Roster, Value, Proposal, Opinion}
-use Rattle.wire.specs.declared.frame.Frame.{Frame}
 use Rattle.wire.specs.declared.frame.Read.{Read}
 use Rattle.wire.specs.declared.frame.Read.the-variants.{Valid, Void}
 use Rattle.wire.specs.declared.frame.FrameRead.{FrameRead}

@@ -5,4 +5,5 @@ pub mod Numbers
 pub mod Refusal
 pub mod Frame
 pub mod Tray
+pub mod Trials
 pub mod Laws

@@ -6,11 +6,12 @@
 --     sender s i, place s i   the sender of entry i, and where its frame lies; 0 and nothing outside the directory
 --     firstPlace s x          where the frame of x's first entry lies
 --     part s o n              the n bytes from o on; no bytes where they run past the end
+--     bytesAt s f             the bytes at a place that was found, if one was
 --     entries s               the tray as a list of entries: who sent, and the bytes
 --     firstBytes x es         the bytes of x's first entry: "Only a sender's first entry counts"
 -- Offsets and lengths are added as numbers without a bound, so no sum wraps.
 use Prim.Native.Nat.{ℕ, zero, suc, _+_, _*_}
-use mathlib.Core.Bool.{Bool, true, false, cond, _&&_}
+use mathlib.Core.Bool.{Bool, cond, _&&_}
 use mathlib.Core.List.{List, [], _∷_}
 use mathlib.Core.Option.{Option, some, none}
 use lib.Dec.{leb, ltb, eqb}
@@ -73,6 +74,10 @@ wellFormed s =
 
 unfoldable pub part : List ℕ → ℕ → ℕ → List ℕ
 part s o n = cond (leb (o + n) (length s)) (take n (drop o s)) []
+
+abbrev pub bytesAt : List ℕ → Found → Option (List ℕ)
+bytesAt s (At o n) = some (part s o n)
+bytesAt s Nothing = none
 
 pub record Entry : Type 0 where
   pub sender : ℕ

@@ -10,8 +10,18 @@ ghost use Rattle.wire.specs.Limits.{frameHeader, numberWidth, maxNumbers
 ghost use Rattle.wire.specs.Numbers.{rising, stored};
 ghost use Rattle.wire.specs.Words.{wordsAt, wordsBytes};
 ghost use Rattle.wire.specs.Frame.{kindOf, chosenBy, saidBy, bitFits, maxCount, countOf, contentOf, readStored, lengthFits, headFits, bodyFits, roundFits, FrameReads, bitChosen, kindSaid, bitSaid, chosenFits, saidFits, writable, headerBytes, FrameWrites};
-use crate::limits::{BIT_AT, COUNT_AT, FRAME_HEADER, KIND_AT, LAST_ROUND, MAX_FRAME, MAX_NUMBERS, NUMBER_WIDTH};
-use crate::word::{half, put_half, put_word, word};
+use crate::limits::BIT_AT;
+use crate::limits::COUNT_AT;
+use crate::limits::FRAME_HEADER;
+use crate::limits::KIND_AT;
+use crate::limits::LAST_ROUND;
+use crate::limits::MAX_FRAME;
+use crate::limits::MAX_NUMBERS;
+use crate::limits::NUMBER_WIDTH;
+use crate::word::half;
+use crate::word::put_half;
+use crate::word::put_word;
+use crate::word::word;
 
 // A proposal or an opinion: a bit, or none. Document 01's 2 (none) is `None` alone.
 pub enum Choice {
@@ -85,14 +95,22 @@ fn max_count(kind: u8) -> usize
 fn round_fits(round: u32) -> bool
     ensures { λ r. ⌜ r ≡ roundFits round ⌝ }
 {
-    if 1 <= round { round <= LAST_ROUND } else { false }
+    if 1 <= round {
+        round <= LAST_ROUND
+    } else {
+        false
+    }
 }
 
 // What byte 5 of a proposal or an opinion stands for.
 fn chosen_by(bit: u8) -> Choice
     ensures { λ r. ⌜ r ≡ chosenBy bit ⌝ }
 {
-    if bit == 2 { Choice::None } else { Choice::Bit(bit) }
+    if bit == 2 {
+        Choice::None
+    } else {
+        Choice::Bit(bit)
+    }
 }
 
 // What a frame of a kind with a bit says.
@@ -370,7 +388,10 @@ pub fn write_frame(frame: Frame, numbers: &[u32], out: &mut [u8]) -> Written
 {
     if writable(frame, numbers) {
         if out.len() < MAX_FRAME {
-            return Written { refusal: 3, length: 0 };
+            return Written {
+                refusal: 3,
+                length: 0,
+            };
         }
         put_header(out, frame, numbers.len());
         put_numbers(out, numbers);
@@ -379,6 +400,9 @@ pub fn write_frame(frame: Frame, numbers: &[u32], out: &mut [u8]) -> Written
             length: FRAME_HEADER + NUMBER_WIDTH * numbers.len(),
         }
     } else {
-        Written { refusal: 10, length: 0 }
+        Written {
+            refusal: 10,
+            length: 0,
+        }
     }
 }

@@ -6,9 +6,18 @@ ghost use lib.Dec.{leb};
 ghost use lib.ListN.{length};
 ghost use Rattle.wire.specs.Frame.{FrameReads};
 ghost use Rattle.wire.specs.Tray.{wellFormed, roundOf, entryCount, entryAt, inDirectory, sender, place, firstPlace, chained, part};
-use crate::frame::{FrameRead, read_frame};
-use crate::limits::{ENTRIES_AT, ENTRY_WIDTH, LENGTH_AT, MAX_ENTRIES, MAX_TRAY, OFFSET_AT, TRAY_HEADER, ZERO_AT};
-use crate::word::{half, word};
+use crate::frame::FrameRead;
+use crate::frame::read_frame;
+use crate::limits::ENTRIES_AT;
+use crate::limits::ENTRY_WIDTH;
+use crate::limits::LENGTH_AT;
+use crate::limits::MAX_ENTRIES;
+use crate::limits::MAX_TRAY;
+use crate::limits::OFFSET_AT;
+use crate::limits::TRAY_HEADER;
+use crate::limits::ZERO_AT;
+use crate::word::half;
+use crate::word::word;
 
 // Where an entry's frame lies in the tray.
 pub enum Found {
@@ -20,14 +29,22 @@ pub enum Found {
 pub fn tray_round(tray: &[u8]) -> u32
     ensures { λ r. ⌜ r ≡ roundOf (now (tray .entry)) ⌝ }
 {
-    if TRAY_HEADER <= tray.len() { word(tray, 0) } else { 0 }
+    if TRAY_HEADER <= tray.len() {
+        word(tray, 0)
+    } else {
+        0
+    }
 }
 
 // How many entries the tray says it has; 0 for a tray without a header.
 pub fn entry_count(tray: &[u8]) -> usize
     ensures { λ r. ⌜ r ≡ entryCount (now (tray .entry)) ⌝ }
 {
-    if TRAY_HEADER <= tray.len() { half(tray, ENTRIES_AT) } else { 0 }
+    if TRAY_HEADER <= tray.len() {
+        half(tray, ENTRIES_AT)
+    } else {
+        0
+    }
 }
 
 // Whether entry `i` is counted and lies whole in the tray's bytes.
@@ -45,7 +62,11 @@ fn in_directory(tray: &[u8], i: usize) -> bool
 pub fn entry_sender(tray: &[u8], i: usize) -> u32
     ensures { λ r. ⌜ r ≡ sender (now (tray .entry)) i ⌝ }
 {
-    if in_directory(tray, i) { word(tray, TRAY_HEADER + ENTRY_WIDTH * i) } else { 0 }
+    if in_directory(tray, i) {
+        word(tray, TRAY_HEADER + ENTRY_WIDTH * i)
+    } else {
+        0
+    }
 }
 
 // Where the frame of entry `i` lies.
@@ -120,7 +141,11 @@ pub fn well_formed(tray: &[u8]) -> bool
 fn lies_in(tray: &[u8], offset: usize, len: usize) -> bool
     ensures { λ r. ⌜ r ≡ leb (offset + len) (length (now (tray .entry))) ⌝ }
 {
-    if offset <= tray.len() { len <= tray.len() - offset } else { false }
+    if offset <= tray.len() {
+        len <= tray.len() - offset
+    } else {
+        false
+    }
 }
 
 // The frame in the `len` bytes from `offset` on, read in a round. A part that runs past the tray's end is void.

@@ -17,7 +17,7 @@ use Rattle.wire.specs.declared.frame.Choice.the-variants.{Bit, None}
 use Rattle.wire.specs.declared.frame.Said.{Said}
 use Rattle.wire.specs.declared.frame.Said.the-variants.{Init, Roster, Value, Proposal, Opinion}
 use Rattle.wire.specs.declared.frame.FrameRead.{FrameRead}
-use Rattle.wire.specs.Words.{wordAt, wordBytes, wordsAt, wordsBytes, Below}
+use Rattle.wire.specs.Words.{wordAt, wordsAt, wordsBytes, Below}
 use Rattle.wire.specs.Numbers.{rising}
 use Rattle.wire.specs.Laws.Words.{half-back, word-back, words-behind, words-back, words-length, byte-drop, half-drop, word-drop, words-drop}
 use Rattle.wire.specs.Refusal.{firstFailed}
@@ -155,13 +155,14 @@ head-written c w = rw (w .round, word-back (c .round), eq-eqb (c .round) (c .rou
 body-written : (c : Content) → Writable c → bodyFits (frameBytes c) (c .round) ≡ true
 unfolding bodyFits frameBytes
 body-written c w =
-    rw
-    (numbers-written c,
-    count-written c,
-    ← w .kind,
-    said-fits (c .said) (w .said),
-    le-leb _ _ (w .count),
-    w .rise)
+    rw (
+      numbers-written c,
+      count-written c,
+      ← w .kind,
+      said-fits (c .said) (w .said),
+      le-leb _ _ (w .count),
+      w .rise,
+    )
 
 pub reads-written : (c : Content) → writable c ≡ true → content (frameBytes c) (c .round) ≡ some c
 unfolding frameBytes

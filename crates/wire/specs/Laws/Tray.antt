@@ -1,15 +1,18 @@
 -- Laws of trays.
-use Prim.Native.Nat.{ℕ, zero, suc, _+_, _*_, _-_, _≤_, _<_}
+use Prim.Native.Nat.{ℕ, zero, suc, _+_, _-_, _≤_, _<_}
 use mathlib.Core.Bool.{Bool, true, false, cond, _&&_, and-eq-true-iff}
-use mathlib.Core.List.{List, [], _∷_}
-use mathlib.Core.Path.{_≡_, refl, ap}
-use borrow.Author.Tests.{leb-true, ltb-true, eqb-true}
+use mathlib.Core.List.{List}
+use mathlib.Core.Option.{some}
+use mathlib.Core.Path.{_≡_, refl, ap, subst}
+use mathlib.Core.Logic.{⊎-elim}
+use borrow.Author.Tests.{leb-true, ltb-true, eqb-true, lt-ltb, le-leb}
+use native.Mathlib.Nat.{eq-or-lt-of-le}
 use native.Mathlib.Omega.{arith}
 use lib.Dec.{leb, ltb, eqb}
-use lib.ListN.{length, getD}
-use Rattle.wire.specs.Limits.{trayHeader, entriesAt}
+use lib.ListN.{length}
+use Rattle.wire.specs.Limits.{trayHeader, entriesAt, zeroAt, maxTray, maxEntries}
 use Rattle.wire.specs.Words.{Below, halfAt}
-use Rattle.wire.specs.Tray.{entryCount, entryAt, offsetOf, lengthOf, inDirectory, sender, place, placeFrom, chained}
+use Rattle.wire.specs.Tray.{entryCount, entryAt, offsetOf, lengthOf, inDirectory, sender, place, placeFrom, firstPlace, chained, wellFormed, part, bytesAt, entriesFrom, entries, firstBytes}
 
 -- ---- the directory
 
@@ -38,3 +41,91 @@ place-step s x n i h = let e : n - i ≡ suc (n - (i + 1)) = omega arith in rw e
 
 pub chained-step : (s : List ℕ) (n i at : ℕ) → i < n → chained s (n - i) i at ≡ (eqb (offsetOf s i) at && chained s (n - (i + 1)) (i + 1) (at + lengthOf s i))
 chained-step s n i at h = let e : n - i ≡ suc (n - (i + 1)) = omega arith in rw e
+
+-- ---- what "well packed" gives
+
+pub record WellFormed (s : List ℕ) : Type 0 where
+  pub header : trayHeader ≤ length s
+  pub short : length s ≤ maxTray
+  pub few : entryCount s ≤ maxEntries
+  pub directory : entryAt (entryCount s) ≤ length s
+  pub frames : chained s (entryCount s) 0 (entryAt (entryCount s)) ≡ true
+
+pub well-formed-gives : (s : List ℕ) → wellFormed s ≡ true → WellFormed s
+unfolding wellFormed
+well-formed-gives s h =
+    let e₅ = and-eq-true-iff _ (chained s (entryCount s) 0 (entryAt (entryCount s))) .0 h in
+    let e₄ = and-eq-true-iff _ (leb (entryAt (entryCount s)) (length s)) .0 (e₅ .0) in
+    let e₃ = and-eq-true-iff _ (eqb (halfAt s zeroAt) 0) .0 (e₄ .0) in
+    let e₂ = and-eq-true-iff _ (leb (entryCount s) maxEntries) .0 (e₃ .0) in
+    let e₁ = and-eq-true-iff (leb trayHeader (length s)) (leb (length s) maxTray) .0 (e₂ .0) in
+    record {
+      header = leb-true _ _ (e₁ .0);
+      short = leb-true _ _ (e₁ .1);
+      few = leb-true _ _ (e₂ .1);
+      directory = leb-true _ _ (e₄ .1);
+      frames = e₅ .1;
+    }
+
+-- a chain of frames ends at the tray's end, so it began before it
+chained-starts : (s : List ℕ) (n i at : ℕ) → chained s n i at ≡ true → at ≤ length s
+chained-starts s zero i at h = let e = eqb-true at (length s) h in omega arith
+chained-starts s (suc n) i at h =
+    let e = and-eq-true-iff (eqb (offsetOf s i) at) (chained s n (i + 1) (at + lengthOf s i)) .0 h in
+    let l = chained-starts s n (i + 1) (at + lengthOf s i) (e .1) in
+    omega arith
+
+-- frame j of a chain begins no earlier than the first and ends within the tray
+record Within (s : List ℕ) (at i : ℕ) : Type 0 where
+  begins : at ≤ offsetOf s i
+  ends : offsetOf s i + lengthOf s i ≤ length s
+
+chained-within : (s : List ℕ) (n i at j : ℕ) → chained s n i at ≡ true → i ≤ j → j < i + n → Within s at j
+chained-within s zero i at j h l u = absurd (omega arith)
+chained-within s (suc n) i at j h l u =
+    let e = and-eq-true-iff (eqb (offsetOf s i) at) (chained s n (i + 1) (at + lengthOf s i)) .0 h in
+    let o : offsetOf s i ≡ at = eqb-true (offsetOf s i) at (e .0) in
+    let m = chained-starts s n (i + 1) (at + lengthOf s i) (e .1) in
+    ⊎-elim
+    (λ (q : i ≡ j). subst (λ (k : ℕ). Within s at k) q (record { begins = omega arith; ends = omega arith }))
+    (λ (q : i < j).
+    let w = chained-within s n (i + 1) (at + lengthOf s i) j (e .1) (omega arith) (omega arith) in
+    record { begins = omega (arith, w .begins); ends = w .ends })
+    (eq-or-lt-of-le l)
+
+-- each entry's part lies in the tray, behind the directory
+pub part-inside : (s : List ℕ) → wellFormed s ≡ true → (i : ℕ) → i < entryCount s → (entryAt (entryCount s) ≤ offsetOf s i) × (offsetOf s i + lengthOf s i ≤ length s)
+part-inside s h i l =
+    let w = chained-within s (entryCount s) 0 (entryAt (entryCount s)) i (well-formed-gives s h .frames) (omega arith) (omega arith) in
+    (w .begins, w .ends)
+
+pub directory-holds : (s : List ℕ) → wellFormed s ≡ true → (i : ℕ) → i < entryCount s → inDirectory s i ≡ true
+unfolding inDirectory
+directory-holds s h i l =
+    let d = well-formed-gives s h .directory in
+    rw (lt-ltb i (entryCount s) l, le-leb (entryAt (i + 1)) (length s) (omega arith))
+
+-- ---- the tray as a list of entries
+
+entries-from-length : (s : List ℕ) (n i : ℕ) → length (entriesFrom s n i) ≡ n
+entries-from-length s zero i = refl
+entries-from-length s (suc n) i = ap suc (entries-from-length s n (i + 1))
+
+pub entries-length : (s : List ℕ) → length (entries s) ≡ entryCount s
+unfolding entries
+entries-length s = entries-from-length s (entryCount s) 0
+
+-- the place that the directory gives for a sender is that of its first entry in the list
+first-from : (s : List ℕ) (x : ℕ) → wellFormed s ≡ true → (n i : ℕ) → i + n ≤ entryCount s → firstBytes x (entriesFrom s n i) ≡ bytesAt s (placeFrom s x n i)
+unfolding place
+first-from s x h zero i l = refl
+first-from s x h (suc n) i l = pick (eqb (sender s i) x) (first-from s x h n (i + 1) (omega arith))
+  where
+    pick : (t : Bool) → firstBytes x (entriesFrom s n (i + 1)) ≡ bytesAt s (placeFrom s x n (i + 1))
+        → cond t (some (part s (offsetOf s i) (lengthOf s i))) (firstBytes x (entriesFrom s n (i + 1))) ≡ bytesAt s (cond t (place s i) (placeFrom s x n (i + 1)))
+    pick true ih = rw (directory-holds s h i (omega arith))
+    pick false ih = ih
+
+pub first-bytes : (s : List ℕ) (x : ℕ) → wellFormed s ≡ true → firstBytes x (entries s) ≡ bytesAt s (firstPlace s x)
+unfolding entries firstPlace
+first-bytes s x h = first-from s x h (entryCount s) 0 (omega arith)

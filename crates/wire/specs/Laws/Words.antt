@@ -1,7 +1,7 @@
 -- Laws of big-endian numbers: what is written reads back, and what reads is written as the same bytes.
 use Prim.Native.Nat.{ℕ, zero, suc, _+_, _*_, _-_, _/_, _%_, _≤_, _<_}
 use mathlib.Core.List.{List, [], _∷_, _++_, append-assoc}
-use mathlib.Core.Path.{_≡_, refl, sym, ap, _∙_}
+use mathlib.Core.Path.{_≡_, refl, ap}
 use native.Mathlib.Nat.{add-zero, add-assoc}
 use native.Mathlib.Omega.{arith}
 use lib.ListN.{length, getD, drop}
@@ -59,15 +59,16 @@ module _ (s : List ℕ) where
       let e₁ : wordAt s at / 256 / 256 % 256 ≡ getD s (at + 1) 0 = omega (arith, b at, b (at + 1), b (at + 2), b (at + 3)) in
       let e₂ : wordAt s at / 256 % 256 ≡ getD s (at + 2) 0 = omega (arith, b at, b (at + 1), b (at + 2), b (at + 3)) in
       let e₃ : wordAt s at % 256 ≡ getD s (at + 3) 0 = omega (arith, b at, b (at + 1), b (at + 2), b (at + 3)) in
-      rw
-      (e₀,
-      e₁,
-      e₂,
-      e₃,
-      byte-drop at (at + 1) (omega arith) (omega arith),
-      byte-drop (at + 1) (at + 2) (omega arith) (omega arith),
-      byte-drop (at + 2) (at + 3) (omega arith) (omega arith),
-      byte-drop (at + 3) (at + 4) (omega arith) (omega arith))
+      rw (
+        e₀,
+        e₁,
+        e₂,
+        e₃,
+        byte-drop at (at + 1) (omega arith) (omega arith),
+        byte-drop (at + 1) (at + 2) (omega arith) (omega arith),
+        byte-drop (at + 2) (at + 3) (omega arith) (omega arith),
+        byte-drop (at + 3) (at + 4) (omega arith) (omega arith),
+      )
 
 pub words-drop : (s : List ℕ) → Below 256 s → (at n : ℕ) → at + 4 * n ≤ length s → wordsBytes (wordsAt s at n) ++ drop (at + 4 * n) s ≡ drop at s
 words-drop s b at zero h = ap (λ (k : ℕ). drop k s) (add-zero at)

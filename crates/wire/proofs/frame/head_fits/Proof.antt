@@ -1,48 +1,38 @@
+-- `wire::frame::head_fits` meets its contract: each test that was passed, and the first that was not, gives `headFits` its value.
 use mathlib.Core.Path.{sym, _∙_}
-use Rattle.wire.specs.Frame.{headFits}
-use Rattle.wire.proofs.Tests.{tests}
 use borrow.Author.Needs.{needs}
 use borrow.Author.Tests.{ne-eqb, eq-eqb}
+use Rattle.wire.specs.Frame.{headFits}
 use Rattle.wire.proofs.frame.head_fits.Statement.{statement}
 use Rattle.wire.proofs.frame.head_fits.Tie as tie
-use Rattle.wire.proofs.frame.head_fits.Reads as reads
-use Rattle.wire.proofs.frame.head_fits.Lts as lts
-use Rattle.wire.proofs.frame.kind_of.Reads as kind-of-reads
-use Rattle.wire.proofs.frame.round_fits.Reads as round-fits-reads
-use Rattle.wire.proofs.word.word.Reads as word-reads
 
--- src/frame.rt:189:8
 round-fits-requires : tie.Need-round-fits-requires
 round-fits-requires c κs = search needs
 
--- src/frame.rt:190:12
 word-requires : tie.Need-word-requires
 word-requires c κs = search needs
 
--- src/frame.rt:191:24
 shared-slice-read-kind : tie.Need-shared-slice-read-kind
 shared-slice-read-kind c = search needs
 
--- src/frame.rt:192:21
 kind-of-requires : tie.Need-kind-of-requires
 kind-of-requires c κs = search needs
 
--- src/frame.rt:185:1
 returns : tie.Need-returns
 unfolding headFits
-returns c = rw
-    (sym (c .before .before .before .before .before .round-fits .ensures) ∙ c .before .before .before .before .if1 .taken,
-    eq-eqb _ _ (sym (c .before .before .before .word .ensures) ∙ c .before .before .if2 .taken),
-    c .kind-of .ensures)
+returns c = rw (
+  sym (c .before .before .before .before .before .round-fits .ensures) ∙ c .before .before .before .before .if1 .taken,
+  eq-eqb _ _ (sym (c .before .before .before .word .ensures) ∙ c .before .before .if2 .taken),
+  c .kind-of .ensures,
+)
 
--- src/frame.rt:185:1
 returns-2 : tie.Need-returns-2
 unfolding headFits
-returns-2 c = rw
-    (sym (c .before .before .before .round-fits .ensures) ∙ c .before .before .if1 .taken,
-    ne-eqb _ _ (λ e. c .if2 .left (c .before .word .ensures ∙ e)))
+returns-2 c = rw (
+  sym (c .before .before .before .round-fits .ensures) ∙ c .before .before .if1 .taken,
+  ne-eqb _ _ (λ e. c .if2 .left (c .before .word .ensures ∙ e)),
+)
 
--- src/frame.rt:185:1
 returns-3 : tie.Need-returns-3
 unfolding headFits
 returns-3 c = rw (sym (c .before .round-fits .ensures) ∙ c .if1 .left)

@@ -1,17 +1,10 @@
 -- `wire::frame::put_header` meets its contract: the four stores, one after the other, are one run of stores from the first byte on.
-use borrow.Author.Needs.{needs}
+use mathlib.Core.Path.{_∙_}
 use native.Mathlib.Omega.{arith}
-use mathlib.Core.Path.{_≡_, sym, _∙_, ap}
-use lib.ListN.{length, length-set}
-use lib.Seq.{length-sets}
+use borrow.Author.Needs.{needs}
+use lib.ListN.{length-set}
 use Rattle.wire.proofs.frame.put_header.Statement.{statement}
 use Rattle.wire.proofs.frame.put_header.Tie as tie
-use Rattle.wire.proofs.frame.put_header.Reads as reads
-use Rattle.wire.proofs.frame.put_header.Lts as lts
-use Rattle.wire.proofs.frame.bit_said.Reads as bit-said-reads
-use Rattle.wire.proofs.frame.kind_said.Reads as kind-said-reads
-use Rattle.wire.proofs.word.put_half.Reads as put-half-reads
-use Rattle.wire.proofs.word.put_word.Reads as put-word-reads
 
 put-word-requires : tie.Need-put-word-requires
 put-word-requires c κs = search needs

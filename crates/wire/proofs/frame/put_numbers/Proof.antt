@@ -1,21 +1,18 @@
 -- `wire::frame::put_numbers` meets its contract: what is left to store, stored behind what was stored, gives the whole run of stores.
 use Prim.Native.Nat.{ℕ, _≤_, _<_, _-_, _+_, _*_}
 use mathlib.Core.List.{List, [], _∷_}
-use mathlib.Core.Path.{_≡_, refl, sym, ap, _∙_}
-use borrow.Author.Needs.{needs}
-use denote.Ref.{now}
+use mathlib.Core.Path.{_≡_, _∙_}
 use native.Mathlib.Numerals.{add-one}
 use native.Mathlib.Omega.{arith}
-use lib.ListN.{length, drop, getD, set, drop-of-length-le}
+use borrow.Author.Needs.{needs}
+use denote.Ref.{now}
+use lib.ListN.{length, drop, getD, drop-of-length-le}
 use lib.Seq.{sets, drop-cons}
 use Rattle.wire.specs.Limits.{frameHeader, numberWidth}
 use Rattle.wire.specs.Words.{wordBytes, wordsBytes}
 use Rattle.wire.proofs.Stores.{sets-join}
 use Rattle.wire.proofs.frame.put_numbers.Statement.{statement}
 use Rattle.wire.proofs.frame.put_numbers.Tie as tie
-use Rattle.wire.proofs.frame.put_numbers.Reads as reads
-use Rattle.wire.proofs.frame.put_numbers.Lts as lts
-use Rattle.wire.proofs.word.put_word.Reads as put-word-reads
 
 abbrev Inv-loop : tie.InvT-loop
 Inv-loop out₀ numbers i₀ out i =
@@ -35,50 +32,39 @@ turn l out last i h e =
     let split : drop i l ≡ getD l i 0 ∷ drop (i + 1) l = rw add-one (drop-cons l i 0 h) in
     rw (next, e, split) (sets-join out at (wordBytes (getD l i 0)) (wordsBytes (drop (i + 1) l)))
 
--- src/frame.rt:361:5
 loop-holds : tie.Need-loop-holds Inv-loop μ-loop
 loop-holds c = search needs
 
--- src/frame.rt:362:38
 mul-put-word : tie.Need-mul-put-word Inv-loop μ-loop
 mul-put-word c = search needs
 
--- src/frame.rt:362:23
 add-put-word : tie.Need-add-put-word Inv-loop μ-loop
 add-put-word c = search needs
 
--- src/frame.rt:362:56
 mul-put-word-2 : tie.Need-mul-put-word-2 Inv-loop μ-loop
 mul-put-word-2 c = search needs
 
--- src/frame.rt:362:56
 shared-slice-read-put-word : tie.Need-shared-slice-read-put-word Inv-loop μ-loop
 shared-slice-read-put-word c = search needs
 
--- src/frame.rt:362:9
 put-word-requires : tie.Need-put-word-requires Inv-loop μ-loop
 put-word-requires c κs = search needs
 
--- src/frame.rt:363:9
 add-i : tie.Need-add-i Inv-loop μ-loop
 add-i c = search needs
 
--- src/frame.rt:361:5
 loop-less : tie.Need-loop-less Inv-loop μ-loop
 loop-less c = search needs
 
--- src/frame.rt:361:5
 loop-again : tie.Need-loop-again Inv-loop μ-loop
 loop-again c =
     let v = c .before .before .before .before .before .before .loop in
     let l = now (c .before .before .before .before .before .before .before .before .before .args .numbers) in
     (search needs, search needs, turn l (v .out) (c .before .before .put-word .last .0) (v .i) (search needs) (c .before .before .put-word .ensures) ∙ v .inv .2)
 
--- src/frame.rt:356:1
 same-length : tie.Need-same-length Inv-loop μ-loop
 same-length c = search needs
 
--- src/frame.rt:356:1
 returns : tie.Need-returns Inv-loop μ-loop
 returns c =
     let v = c .before .loop in

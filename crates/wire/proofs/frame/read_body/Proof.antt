@@ -2,69 +2,51 @@
 use Prim.Native.Nat.{ℕ, _+_, _*_}
 use mathlib.Core.Bool.{true}
 use mathlib.Core.Path.{_≡_, sym, ap, _∙_}
+use native.Mathlib.Nat.{le-trans}
+use borrow.Author.Needs.{needs}
 use borrow.Author.Tests.{le-leb, lt-leb}
 use denote.Ref.{now}
-use native.Mathlib.Nat.{le-trans}
 use lib.Dec.{leb}
 use lib.ListN.{getD}
-use Rattle.wire.specs.Limits.{frameHeader, numberWidth, bitAt}
-use Rattle.wire.specs.Words.{wordsAt}
-use Rattle.wire.specs.Numbers.{rising, stored}
 use Rattle.wire.specs.Frame.{kindOf, saidBy, bitFits, maxCount, countOf, numbersOf, bodyFits}
 use Rattle.wire.specs.Laws.Frame.{max-count-bound}
+use Rattle.wire.specs.Limits.{frameHeader, numberWidth, bitAt}
+use Rattle.wire.specs.Numbers.{rising, stored}
+use Rattle.wire.specs.Words.{wordsAt}
 use Rattle.wire.specs.declared.frame.Read.the-variants.{Valid}
-use borrow.Author.Needs.{needs}
 use Rattle.wire.proofs.frame.read_body.Statement.{statement}
 use Rattle.wire.proofs.frame.read_body.Tie as tie
-use Rattle.wire.proofs.frame.read_body.Reads as reads
-use Rattle.wire.proofs.frame.read_body.Lts as lts
-use Rattle.wire.proofs.frame.bit_fits.Reads as bit-fits-reads
-use Rattle.wire.proofs.frame.kind_of.Reads as kind-of-reads
-use Rattle.wire.proofs.frame.max_count.Reads as max-count-reads
-use Rattle.wire.proofs.frame.read_numbers.Reads as read-numbers-reads
-use Rattle.wire.proofs.frame.said_by.Reads as said-by-reads
-use Rattle.wire.proofs.frame.void.Reads as void-reads
-use Rattle.wire.proofs.word.half.Reads as half-reads
 
--- src/frame.rt:206:9
 kind-of-requires : tie.Need-kind-of-requires
 kind-of-requires c κs = search needs
 
--- src/frame.rt:207:15
 shared-slice-read-bit : tie.Need-shared-slice-read-bit
 shared-slice-read-bit c = search needs
 
--- src/frame.rt:208:9
 half-requires : tie.Need-half-requires
 half-requires c κs = search needs
 
--- src/frame.rt:209:8
 bit-fits-requires : tie.Need-bit-fits-requires
 bit-fits-requires c κs = search needs
 
--- src/frame.rt:210:21
 max-count-requires : tie.Need-max-count-requires
 max-count-requires c κs = search needs
 
--- src/frame.rt:211:17
 read-numbers-requires : tie.Need-read-numbers-requires
-read-numbers-requires c κs =
-    (c .before .before .before .before .before .before .before .before .pre ∙ ap (λ (n : ℕ). frameHeader + numberWidth * n) (sym (c .before .before .before .before .half .ensures .0)),
-    le-trans (c .if2 .taken) (rw (c .before .max-count .ensures) (max-count-bound _)))
+read-numbers-requires c κs = (
+  c .before .before .before .before .before .before .before .before .pre ∙ ap (λ (n : ℕ). frameHeader + numberWidth * n) (sym (c .before .before .before .before .half .ensures .0)),
+  le-trans (c .if2 .taken) (rw (c .before .max-count .ensures) (max-count-bound _)),
+)
 
--- src/frame.rt:218:31
 said-by-requires : tie.Need-said-by-requires
 said-by-requires c κs = search needs
 
--- src/frame.rt:223:17
 void-requires : tie.Need-void-requires
 void-requires c κs = search needs
 
--- src/frame.rt:226:13
 void-requires-2 : tie.Need-void-requires-2
 void-requires-2 c κs = search needs
 
--- src/frame.rt:229:9
 void-requires-3 : tie.Need-void-requires-3
 void-requires-3 c κs = search needs
 

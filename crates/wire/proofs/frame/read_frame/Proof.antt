@@ -2,51 +2,37 @@
 use mathlib.Core.Bool.{true}
 use mathlib.Core.Path.{_≡_, sym, _∙_}
 use native.Mathlib.Omega.{arith}
+use borrow.Author.Needs.{needs}
 use denote.Ref.{now}
 use Rattle.wire.specs.Frame.{lengthFits}
 use Rattle.wire.specs.Laws.Frame.{length-fits, content-is, frame-reads}
-use borrow.Author.Needs.{needs}
 use Rattle.wire.proofs.frame.read_frame.Statement.{statement}
 use Rattle.wire.proofs.frame.read_frame.Tie as tie
-use Rattle.wire.proofs.frame.read_frame.Reads as reads
-use Rattle.wire.proofs.frame.read_frame.Lts as lts
-use Rattle.wire.proofs.frame.head_fits.Reads as head-fits-reads
-use Rattle.wire.proofs.frame.length_fits.Reads as length-fits-reads
-use Rattle.wire.proofs.frame.read_body.Reads as read-body-reads
-use Rattle.wire.proofs.frame.void.Reads as void-reads
 
 length-passed : (c : tie.Then1) → lengthFits (now (c .before .before .before .args .bytes)) ≡ true
 length-passed c = sym (c .before .length-fits .ensures) ∙ c .if1 .taken
 
--- src/frame.rt:237:8
 length-fits-requires : tie.Need-length-fits-requires
 length-fits-requires c κs = search needs
 
--- src/frame.rt:238:12
 head-fits-requires : tie.Need-head-fits-requires
 head-fits-requires c κs = omega (arith, length-fits _ (length-passed c))
 
--- src/frame.rt:239:13
 read-body-requires : tie.Need-read-body-requires
 read-body-requires c κs = length-fits _ (length-passed (c .before .before))
 
--- src/frame.rt:241:13
 void-requires : tie.Need-void-requires
 void-requires c κs = search needs
 
--- src/frame.rt:244:9
 void-requires-2 : tie.Need-void-requires-2
 void-requires-2 c κs = search needs
 
--- src/frame.rt:234:1
 returns : tie.Need-returns
 returns c = frame-reads _ _ _ (rw (content-is, length-passed (c .before .before .before), sym (c .before .before .head-fits .ensures) ∙ c .before .if2 .taken) (c .read-body .ensures))
 
--- src/frame.rt:234:1
 returns-2 : tie.Need-returns-2
 returns-2 c = frame-reads _ _ _ (rw (content-is, length-passed (c .before .before .before), sym (c .before .before .head-fits .ensures) ∙ c .before .if2 .left) (c .void .ensures))
 
--- src/frame.rt:234:1
 returns-3 : tie.Need-returns-3
 returns-3 c = frame-reads _ _ _ (rw (content-is, sym (c .before .before .length-fits .ensures) ∙ c .before .if1 .left) (c .void2 .ensures))
 

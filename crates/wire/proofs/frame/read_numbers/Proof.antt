@@ -4,24 +4,20 @@ use Prim.Native.Nat.{ℕ, _≤_, _<_, _-_, _+_, _*_}
 use mathlib.Core.Bool.{true, false}
 use mathlib.Core.List.{List, [], _∷_}
 use mathlib.Core.Path.{_≡_, refl, sym, ap, _∙_}
-use borrow.Author.Needs.{needs}
-use borrow.Author.Tests.{lt-ltb, le-ltb}
-use denote.Ref.{now}
 use native.Mathlib.Nat.{sub-zero}
 use native.Mathlib.Numerals.{add-one}
 use native.Mathlib.Omega.{arith}
+use borrow.Author.Needs.{needs}
+use denote.Ref.{now}
 use lib.ListN.{length, replicate, set, length-set}
 use lib.Seq.{sets}
+use Rattle.wire.specs.Laws.Numbers.{rising-stops, rising-goes, stored-filled}
+use Rattle.wire.specs.Laws.Words.{words-length, words-step}
 use Rattle.wire.specs.Limits.{frameHeader, numberWidth, maxNumbers}
 use Rattle.wire.specs.Numbers.{rising}
 use Rattle.wire.specs.Words.{wordAt, wordsAt}
-use Rattle.wire.specs.Laws.Numbers.{rising-stops, rising-goes, stored-filled}
-use Rattle.wire.specs.Laws.Words.{words-length, words-step}
 use Rattle.wire.proofs.frame.read_numbers.Statement.{statement}
 use Rattle.wire.proofs.frame.read_numbers.Tie as tie
-use Rattle.wire.proofs.frame.read_numbers.Reads as reads
-use Rattle.wire.proofs.frame.read_numbers.Lts as lts
-use Rattle.wire.proofs.word.word.Reads as word-reads
 
 -- what is left to read at turn i of n
 abbrev rest : List ℕ → ℕ → ℕ → List ℕ
@@ -56,70 +52,64 @@ done s n i h = let e : n - i ≡ 0 = omega arith in rw e
 whole : (s : List ℕ) (n : ℕ) → rest s n 0 ≡ wordsAt s frameHeader n
 whole s n = rw sub-zero
 
--- src/frame.rt:153:5
 loop-holds : tie.Need-loop-holds Inv-loop μ-loop
 loop-holds c =
     (search needs, refl, refl, refl)
 
--- src/frame.rt:154:44
 mul-word : tie.Need-mul-word Inv-loop μ-loop
 mul-word c = search needs
 
--- src/frame.rt:154:29
 add-word : tie.Need-add-word Inv-loop μ-loop
 add-word c = search needs
 
--- src/frame.rt:154:13
 word-requires : tie.Need-word-requires Inv-loop μ-loop
 word-requires c κs = search needs
 
--- src/frame.rt:156:13
 returns : tie.Need-returns Inv-loop μ-loop
 returns c =
     let v = c .before .before .before .loop in
-    let a = c .before .before .before .before .before .args in
-    (sym (stops (now (a .bytes)) (a .count) (v .i) (c .before .word .result) (search needs) (c .before .word .ensures) (v .last) (c .if1 .taken))
-    ∙ v .inv .3 ∙ ap (rising 0) (whole (now (a .bytes)) (a .count)), refl)
+    let a = c .before .before .before .before .before .args in (
+      sym (stops (now (a .bytes)) (a .count) (v .i) (c .before .word .result) (search needs) (c .before .word .ensures) (v .last) (c .if1 .taken))
+          ∙ v .inv .3 ∙ ap (rising 0) (whole (now (a .bytes)) (a .count)),
+      refl,
+    )
 
--- src/frame.rt:164:9
 mul-at : tie.Need-mul-at Inv-loop μ-loop
 mul-at c = search needs
 
--- src/frame.rt:164:9
 array-write-at : tie.Need-array-write-at Inv-loop μ-loop
 array-write-at c = search needs
 
--- src/frame.rt:166:9
 add-i : tie.Need-add-i Inv-loop μ-loop
 add-i c = search needs
 
--- src/frame.rt:153:5
 loop-less : tie.Need-loop-less Inv-loop μ-loop
 loop-less c = search needs
 
--- src/frame.rt:153:5
 loop-again : tie.Need-loop-again Inv-loop μ-loop
 loop-again c =
     let v = c .before .before .before .loop in
     let s = now (c .before .before .before .before .before .args .bytes) in
     let n = c .before .before .before .before .before .args .count in
     let x = c .before .word .result in
-    let h : v .i < n = search needs in
-    (search needs,
-    simp length-set (v .inv .1),
-    sym (puts s n (v .i) x h (c .before .word .ensures) (v .at)) ∙ v .inv .2,
-    sym (goes s n (v .i) x h (c .before .word .ensures) (v .last) (c .if1 .left)) ∙ v .inv .3)
+    let h : v .i < n = search needs in (
+      search needs,
+      simp length-set (v .inv .1),
+      sym (puts s n (v .i) x h (c .before .word .ensures) (v .at)) ∙ v .inv .2,
+      sym (goes s n (v .i) x h (c .before .word .ensures) (v .last) (c .if1 .left)) ∙ v .inv .3,
+    )
 
--- src/frame.rt:146:1
 returns-2 : tie.Need-returns-2 Inv-loop μ-loop
 returns-2 c =
     let v = c .before .loop in
     let s = now (c .before .before .before .args .bytes) in
     let n = c .before .before .before .args .count in
     let e = done s n (v .i) (search needs) in
-    let f : true ≡ rising 0 (wordsAt s frameHeader n) = rw e at (v .inv .3) ∙ ap (rising 0) (whole s n) in
-    (f, stored-filled (wordsAt s frameHeader n) (v .at) n (search needs) (words-length s frameHeader n)
-    (rw e at (v .inv .2) ∙ ap (sets (replicate maxNumbers 0) 0) (whole s n)))
+    let f : true ≡ rising 0 (wordsAt s frameHeader n) = rw e at (v .inv .3) ∙ ap (rising 0) (whole s n) in (
+      f,
+      stored-filled (wordsAt s frameHeader n) (v .at) n (search needs) (words-length s frameHeader n)
+          (rw e at (v .inv .2) ∙ ap (sets (replicate maxNumbers 0) 0) (whole s n)),
+    )
 
 pub read-numbers-spec : {M : Type 1} → statement M
 read-numbers-spec =

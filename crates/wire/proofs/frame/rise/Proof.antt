@@ -1,18 +1,15 @@
 -- `wire::frame::rise` meets its contract: what is left of the list rises from above the last number passed exactly if the whole list rises.
 use Prim.Native.Nat.{_≤_, _-_}
-use mathlib.Core.Path.{_≡_, sym, _∙_}
 use mathlib.Core.List.{[]}
-use denote.Ref.{now}
+use mathlib.Core.Path.{_≡_, sym, _∙_}
 use borrow.Author.Needs.{needs}
 use borrow.Author.Tests.{lt-ltb, le-ltb}
-use native.Mathlib.Omega.{arith}
+use denote.Ref.{now}
 use lib.ListN.{length, drop, drop-of-length-le}
-use Rattle.wire.specs.Numbers.{rising}
 use Rattle.wire.specs.Laws.Numbers.{rising-drop}
+use Rattle.wire.specs.Numbers.{rising}
 use Rattle.wire.proofs.frame.rise.Statement.{statement}
 use Rattle.wire.proofs.frame.rise.Tie as tie
-use Rattle.wire.proofs.frame.rise.Reads as reads
-use Rattle.wire.proofs.frame.rise.Lts as lts
 
 abbrev Inv-loop : tie.InvT-loop
 Inv-loop numbers last₀ i₀ last i = (i ≤ length numbers) × (rising 0 numbers ≡ rising last (drop i numbers))
@@ -43,9 +40,11 @@ loop-less c = search needs
 
 loop-again : tie.Need-loop-again Inv-loop μ-loop
 loop-again c =
-    let v = c .before .before .before .loop in
-    (search needs, v .inv .1 ∙ rising-drop (v .last) (now (c .before .before .before .before .args .numbers)) (v .i) (search needs)
-    ∙ simp (lt-ltb _ _ (c .if1 .left)))
+    let v = c .before .before .before .loop in (
+      search needs,
+      v .inv .1 ∙ rising-drop (v .last) (now (c .before .before .before .before .args .numbers)) (v .i) (search needs)
+          ∙ simp (lt-ltb _ _ (c .if1 .left)),
+    )
 
 returns-2 : tie.Need-returns-2 Inv-loop μ-loop
 returns-2 c =

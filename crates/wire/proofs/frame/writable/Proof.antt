@@ -1,42 +1,28 @@
 -- `wire::frame::writable` meets its contract: each test that was passed, and the first that was not, gives `writable` its value.
 use mathlib.Core.Bool.{true}
 use mathlib.Core.Path.{_≡_, sym, ap, _∙_}
+use borrow.Author.Needs.{needs}
 use borrow.Author.Tests.{le-leb, lt-leb, eq-eqb, ne-eqb}
 use lib.Dec.{eqb}
 use Rattle.wire.specs.Frame.{kindOf, kindSaid, saidFits, roundFits, maxCount, writable}
-use borrow.Author.Needs.{needs}
 use Rattle.wire.proofs.frame.writable.Statement.{statement}
 use Rattle.wire.proofs.frame.writable.Tie as tie
-use Rattle.wire.proofs.frame.writable.Reads as reads
-use Rattle.wire.proofs.frame.writable.Lts as lts
-use Rattle.wire.proofs.frame.kind_of.Reads as kind-of-reads
-use Rattle.wire.proofs.frame.kind_said.Reads as kind-said-reads
-use Rattle.wire.proofs.frame.max_count.Reads as max-count-reads
-use Rattle.wire.proofs.frame.rise.Reads as rise-reads
-use Rattle.wire.proofs.frame.round_fits.Reads as round-fits-reads
-use Rattle.wire.proofs.frame.said_fits.Reads as said-fits-reads
 
--- src/frame.rt:324:9
 kind-said-requires : tie.Need-kind-said-requires
 kind-said-requires c κs = search needs
 
--- src/frame.rt:325:8
 round-fits-requires : tie.Need-round-fits-requires
 round-fits-requires c κs = search needs
 
--- src/frame.rt:326:20
 kind-of-requires : tie.Need-kind-of-requires
 kind-of-requires c κs = search needs
 
--- src/frame.rt:327:16
 said-fits-requires : tie.Need-said-fits-requires
 said-fits-requires c κs = search needs
 
--- src/frame.rt:328:37
 max-count-requires : tie.Need-max-count-requires
 max-count-requires c κs = search needs
 
--- src/frame.rt:329:21
 rise-requires : tie.Need-rise-requires
 rise-requires c κs = search needs
 
@@ -55,33 +41,37 @@ count-is c = c .max-count .ensures ∙ ap maxCount (c .before .before .before .b
 
 returns : tie.Need-returns
 unfolding writable
-returns c = rw
-    (round-passed (c .before .before .before .before .before .before .before),
-    kind-passed (c .before .before .before .before .before),
-    said-passed (c .before .before .before),
-    le-leb _ _ (rw (count-is (c .before .before)) at (c .before .if4 .taken)),
-    c .rise .ensures)
+returns c = rw (
+  round-passed (c .before .before .before .before .before .before .before),
+  kind-passed (c .before .before .before .before .before),
+  said-passed (c .before .before .before),
+  le-leb _ _ (rw (count-is (c .before .before)) at (c .before .if4 .taken)),
+  c .rise .ensures,
+)
 
 returns-2 : tie.Need-returns-2
 unfolding writable
-returns-2 c = rw
-    (round-passed (c .before .before .before .before .before .before),
-    kind-passed (c .before .before .before .before),
-    said-passed (c .before .before),
-    lt-leb _ _ (rw (count-is (c .before)) at (c .if4 .left)))
+returns-2 c = rw (
+  round-passed (c .before .before .before .before .before .before),
+  kind-passed (c .before .before .before .before),
+  said-passed (c .before .before),
+  lt-leb _ _ (rw (count-is (c .before)) at (c .if4 .left)),
+)
 
 returns-3 : tie.Need-returns-3
 unfolding writable
-returns-3 c = rw
-    (round-passed (c .before .before .before .before),
-    kind-passed (c .before .before),
-    sym (c .before .said-fits .ensures) ∙ c .if3 .left)
+returns-3 c = rw (
+  round-passed (c .before .before .before .before),
+  kind-passed (c .before .before),
+  sym (c .before .said-fits .ensures) ∙ c .if3 .left,
+)
 
 returns-4 : tie.Need-returns-4
 unfolding writable
-returns-4 c = rw
-    (round-passed (c .before .before),
-    ne-eqb _ _ (λ e. c .if2 .left (c .before .before .before .before .kind-said .ensures ∙ e ∙ sym (c .before .kind-of .ensures))))
+returns-4 c = rw (
+  round-passed (c .before .before),
+  ne-eqb _ _ (λ e. c .if2 .left (c .before .before .before .before .kind-said .ensures ∙ e ∙ sym (c .before .kind-of .ensures))),
+)
 
 returns-5 : tie.Need-returns-5
 unfolding writable

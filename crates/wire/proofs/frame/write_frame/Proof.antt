@@ -4,25 +4,19 @@ use Prim.Native.Nat.{ℕ, _+_, _*_, _≤_, _<_}
 use mathlib.Core.Bool.{true, false}
 use mathlib.Core.List.{List, _++_}
 use mathlib.Core.Path.{_≡_, sym, _∙_}
-use borrow.Author.Tests.{le-leb, lt-leb}
-use denote.Ref.{now}
 use native.Mathlib.Nat.{zero-add}
 use native.Mathlib.Omega.{arith}
+use borrow.Author.Needs.{needs}
+use borrow.Author.Tests.{le-leb, lt-leb}
 use lib.ListN.{length, drop}
 use lib.Seq.{sets, sets-eq}
-use Rattle.wire.specs.Limits.{frameHeader, numberWidth, maxFrame}
-use Rattle.wire.specs.Words.{wordsBytes}
 use Rattle.wire.specs.Frame.{Content, kindSaid, bitSaid, writable, writeRefusal, headerBytes, frameBytes, FrameWrites}
 use Rattle.wire.specs.Laws.Frame.{writable-count, frame-length}
+use Rattle.wire.specs.Limits.{frameHeader, numberWidth, maxFrame}
+use Rattle.wire.specs.Words.{wordsBytes}
 use Rattle.wire.proofs.Stores.{sets-join}
-use borrow.Author.Needs.{needs}
 use Rattle.wire.proofs.frame.write_frame.Statement.{statement}
 use Rattle.wire.proofs.frame.write_frame.Tie as tie
-use Rattle.wire.proofs.frame.write_frame.Reads as reads
-use Rattle.wire.proofs.frame.write_frame.Lts as lts
-use Rattle.wire.proofs.frame.put_header.Reads as put-header-reads
-use Rattle.wire.proofs.frame.put_numbers.Reads as put-numbers-reads
-use Rattle.wire.proofs.frame.writable.Reads as writable-reads
 
 module _ (f : Content) (b : List ℕ) where
   not-allowed : writable f ≡ false → FrameWrites f b (record { refusal = 10; length = 0 }) b
@@ -54,41 +48,32 @@ module _ (f : Content) (b : List ℕ) where
       let m = writable-count f h in
       record { refusal = rw (h, e); written = rw (h, e) (sym n); output = rw (h, e) (s ∙ stored (omega arith)) }
 
--- src/frame.rt:371:8
 writable-requires : tie.Need-writable-requires
 writable-requires c κs = search needs
 
--- src/frame.rt:373:13
 returns : tie.Need-returns
 returns c = no-room _ _ (sym (c .before .before .writable .ensures) ∙ c .before .if1 .taken) (c .if2 .taken)
 
--- src/frame.rt:375:9
 put-header-requires : tie.Need-put-header-requires
 put-header-requires c κs = (search needs, writable-count _ (sym (c .before .before .before .writable .ensures) ∙ c .before .before .if1 .taken))
 
--- src/frame.rt:376:9
 put-numbers-requires : tie.Need-put-numbers-requires
 put-numbers-requires c κs = omega (arith, writable-count _ (sym (c .before .before .before .before .before .before .before .writable .ensures) ∙ c .before .before .before .before .before .before .if1 .taken), c .before .before .before .put-header .kept .0)
 
--- src/frame.rt:379:36
 mul-t13 : tie.Need-mul-t13
 mul-t13 c = search needs
 
--- src/frame.rt:379:21
 add-t14 : tie.Need-add-t14
 add-t14 c = search needs
 
--- src/frame.rt:368:1
 same-length : tie.Need-same-length
 same-length c = search needs
 
--- src/frame.rt:368:1
 returns-2 : tie.Need-returns-2
 returns-2 c =
     wrote _ _ _ (sym (c .before .before .before .before .before .before .before .before .before .before .writable .ensures) ∙ c .before .before .before .before .before .before .before .before .before .if1 .taken) (c .before .before .before .before .before .before .before .before .if2 .left)
     (c .before .before .put-numbers .ensures ∙ rw (c .before .before .before .before .before .before .put-header .ensures))
 
--- src/frame.rt:368:1
 returns-3 : tie.Need-returns-3
 returns-3 c = not-allowed _ _ (sym (c .before .writable .ensures) ∙ c .if1 .left)
 

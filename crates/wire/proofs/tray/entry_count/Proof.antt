@@ -1,24 +1,20 @@
 -- `wire::tray::entry_count` meets its contract: the branch gives the test of `entryCount` its value.
-use Rattle.wire.specs.Tray.{entryCount}
-use borrow.Author.Tests.{le-leb, lt-leb}
 use borrow.Author.Needs.{needs}
+use borrow.Author.Tests.{le-leb, lt-leb}
+use Rattle.wire.specs.Tray.{entryCount}
 use Rattle.wire.proofs.tray.entry_count.Statement.{statement}
 use Rattle.wire.proofs.tray.entry_count.Tie as tie
-use Rattle.wire.proofs.tray.entry_count.Reads as reads
-use Rattle.wire.proofs.tray.entry_count.Lts as lts
-use Rattle.wire.proofs.word.half.Reads as half-reads
 
--- src/tray.rt:30:36
 half-requires : tie.Need-half-requires
 half-requires c κs = search needs
 
--- src/tray.rt:27:1
 returns : tie.Need-returns
 unfolding entryCount
 returns c = rw (le-leb _ _ (c .before .if1 .taken)) (c .half .ensures .0)
--- src/tray.rt:27:1
+
 returns-2 : tie.Need-returns-2
 unfolding entryCount
 returns-2 c = rw (lt-leb _ _ (c .if1 .left))
+
 pub entry-count-spec : {M : Type 1} → statement M
 entry-count-spec = tie.close (tie.spec half-requires returns returns-2)

@@ -1,50 +1,45 @@
 -- `wire::tray::entry_place` meets its contract: within the directory the entry lies in the tray, so its offset and length can be read.
-use Rattle.wire.specs.Tray.{place}
-use mathlib.Core.Path.{sym, ap, _∙_}
-use denote.Ref.{now}
+use mathlib.Core.Path.{sym, _∙_}
 use native.Mathlib.Omega.{arith}
-use Rattle.wire.specs.Laws.Tray.{InDirectory, in-directory-gives}
 use borrow.Author.Needs.{needs}
+use denote.Ref.{now}
+use Rattle.wire.specs.Laws.Tray.{InDirectory, in-directory-gives}
+use Rattle.wire.specs.Tray.{place}
 use Rattle.wire.proofs.tray.entry_place.Statement.{statement}
 use Rattle.wire.proofs.tray.entry_place.Tie as tie
-use Rattle.wire.proofs.tray.entry_place.Reads as reads
-use Rattle.wire.proofs.tray.entry_place.Lts as lts
-use Rattle.wire.proofs.tray.in_directory.Reads as in-directory-reads
-use Rattle.wire.proofs.word.half.Reads as half-reads
 
 within : (c : tie.Then1) → InDirectory (now (c .before .before .before .args .tray)) (c .before .before .before .args .i)
 within c = in-directory-gives _ _ (sym (c .before .in-directory .ensures) ∙ c .if1 .taken)
 
--- src/tray.rt:55:8
 in-directory-requires : tie.Need-in-directory-requires
 in-directory-requires c κs = search needs
 
--- src/tray.rt:56:35
 mul-entry : tie.Need-mul-entry
 mul-entry c = omega (arith, within c .whole)
--- src/tray.rt:56:21
+
 add-entry : tie.Need-add-entry
 add-entry c = omega (arith, within c .whole)
--- src/tray.rt:57:30
+
 add-half : tie.Need-add-half
 add-half c = omega (arith, within c .whole)
--- src/tray.rt:57:19
+
 half-requires : tie.Need-half-requires
 half-requires c κs = omega (arith, within c .whole)
--- src/tray.rt:57:61
+
 add-half-2 : tie.Need-add-half-2
 add-half-2 c = omega (arith, within (c .before) .whole)
--- src/tray.rt:57:50
+
 half-requires-2 : tie.Need-half-requires-2
 half-requires-2 c κs = omega (arith, within (c .before) .whole)
--- src/tray.rt:52:1
+
 returns : tie.Need-returns
 unfolding place
 returns c = rw (sym (c .before .before .before .in-directory .ensures) ∙ c .before .before .if1 .taken) (cc)
--- src/tray.rt:52:1
+
 returns-2 : tie.Need-returns-2
 unfolding place
 returns-2 c = rw (sym (c .before .in-directory .ensures) ∙ c .if1 .left)
+
 pub entry-place-spec : {M : Type 1} → statement M
 entry-place-spec =
     tie.close

@@ -2,21 +2,18 @@
 use Prim.Native.Nat.{ℕ, _+_, _-_, _≤_, _<_}
 use mathlib.Core.Bool.{false}
 use mathlib.Core.List.{List}
-use mathlib.Core.Path.{_≡_, refl, sym, ap, _∙_}
+use mathlib.Core.Path.{_≡_, sym, _∙_}
+use native.Mathlib.Nat.{sub-zero}
+use native.Mathlib.Omega.{arith}
 use borrow.Author.Needs.{needs}
 use borrow.Author.Tests.{eq-eqb, ne-eqb}
 use denote.Ref.{now}
-use native.Mathlib.Nat.{sub-zero}
-use native.Mathlib.Omega.{arith}
 use lib.Dec.{eqb}
 use lib.ListN.{length}
-use Rattle.wire.specs.Tray.{entryAt, offsetOf, lengthOf, chained}
 use Rattle.wire.specs.Laws.Tray.{chained-step}
+use Rattle.wire.specs.Tray.{entryAt, offsetOf, lengthOf, chained}
 use Rattle.wire.proofs.tray.frames_follow.Statement.{statement}
 use Rattle.wire.proofs.tray.frames_follow.Tie as tie
-use Rattle.wire.proofs.tray.frames_follow.Reads as reads
-use Rattle.wire.proofs.tray.frames_follow.Lts as lts
-use Rattle.wire.proofs.word.half.Reads as half-reads
 
 module _ (s : List ℕ) (n i at : ℕ) where
   gap : i < n → (offsetOf s i ≡ at → ⊥) → chained s (n - i) i at ≡ false
@@ -34,63 +31,48 @@ Inv-loop tray count end₀ i₀ end i = (i ≤ count) × (chained tray (count - 
 abbrev μ-loop : tie.MeasureT-loop
 μ-loop tray count end₀ i₀ end i = count - i
 
--- src/tray.rt:83:33
 mul-end : tie.Need-mul-end Inv-loop μ-loop
 mul-end c = search needs
 
--- src/tray.rt:83:19
 add-end : tie.Need-add-end Inv-loop μ-loop
 add-end c = search needs
 
--- src/tray.rt:85:5
 loop-holds : tie.Need-loop-holds Inv-loop μ-loop
 loop-holds c = (search needs, rw sub-zero)
 
--- src/tray.rt:86:35
 mul-entry : tie.Need-mul-entry Inv-loop μ-loop
 mul-entry c = search needs
 
--- src/tray.rt:86:21
 add-entry : tie.Need-add-entry Inv-loop μ-loop
 add-entry c = search needs
 
--- src/tray.rt:87:23
 add-half : tie.Need-add-half Inv-loop μ-loop
 add-half c = search needs
 
--- src/tray.rt:87:12
 half-requires : tie.Need-half-requires Inv-loop μ-loop
 half-requires c κs = search needs
 
--- src/tray.rt:88:13
 returns : tie.Need-returns Inv-loop μ-loop
 returns c = sym (gap (now (c .before .before .before .before .before .args .tray)) (c .before .before .before .before .before .args .count) (c .before .before .before .loop .i) (c .before .before .before .loop .end) (search needs) (λ e. c .if1 .taken (c .before .half .ensures .0 ∙ e))) ∙ c .before .before .before .loop .inv .1
 
--- src/tray.rt:90:27
 add-half-2 : tie.Need-add-half-2 Inv-loop μ-loop
 add-half-2 c = search needs
 
--- src/tray.rt:90:16
 half-requires-2 : tie.Need-half-requires-2 Inv-loop μ-loop
 half-requires-2 c κs = search needs
 
--- src/tray.rt:90:9
 add-end-2 : tie.Need-add-end-2 Inv-loop μ-loop
 add-end-2 c = search needs
 
--- src/tray.rt:91:9
 add-i : tie.Need-add-i Inv-loop μ-loop
 add-i c = search needs
 
--- src/tray.rt:85:5
 loop-less : tie.Need-loop-less Inv-loop μ-loop
 loop-less c = search needs
 
--- src/tray.rt:85:5
 loop-again : tie.Need-loop-again Inv-loop μ-loop
 loop-again c = (search needs, sym (follows (now (c .before .before .before .before .before .before .args .tray)) (c .before .before .before .before .before .before .args .count) (c .before .before .before .before .loop .i) (c .before .before .before .before .loop .end) (c .half2 .result) (search needs) (sym (c .before .before .half .ensures .0) ∙ c .before .if1 .left) (c .half2 .ensures .0)) ∙ c .before .before .before .before .loop .inv .1)
 
--- src/tray.rt:79:1
 returns-2 : tie.Need-returns-2 Inv-loop μ-loop
 returns-2 c = sym (done (now (c .before .before .before .args .tray)) (c .before .before .before .args .count) (c .before .loop .i) (c .before .loop .end) (search needs)) ∙ c .before .loop .inv .1
 

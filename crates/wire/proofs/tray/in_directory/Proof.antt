@@ -1,39 +1,33 @@
 -- `wire::tray::in_directory` meets its contract: the branch gives the first test of `inDirectory` its value. A count is below 2 ^ 16, so no sum wraps.
-use mathlib.Core.Path.{sym, _∙_}
+use native.Mathlib.Omega.{arith}
+use borrow.Author.Needs.{needs}
 use borrow.Author.Tests.{lt-ltb, le-ltb}
 use denote.Ref.{now}
-use native.Mathlib.Omega.{arith}
-use Rattle.wire.specs.Tray.{inDirectory}
 use Rattle.wire.specs.Laws.Tray.{entry-count-below}
-use borrow.Author.Needs.{needs}
+use Rattle.wire.specs.Tray.{inDirectory}
 use Rattle.wire.proofs.tray.in_directory.Statement.{statement}
 use Rattle.wire.proofs.tray.in_directory.Tie as tie
-use Rattle.wire.proofs.tray.in_directory.Reads as reads
-use Rattle.wire.proofs.tray.in_directory.Lts as lts
-use Rattle.wire.proofs.tray.entry_count.Reads as entry-count-reads
 
--- src/tray.rt:37:12
 entry-count-requires : tie.Need-entry-count-requires
 entry-count-requires c κs = search needs
 
--- src/tray.rt:38:38
 add-result : tie.Need-add-result
 add-result c = search needs
 
--- src/tray.rt:38:23
 mul-result : tie.Need-mul-result
 mul-result c = omega (arith, entry-count-below (now (c .before .before .before .args .tray)) (λ i. c .before .before .shared-slice-known .given i .fits), c .before .entry-count .ensures)
--- src/tray.rt:38:9
+
 add-result-2 : tie.Need-add-result-2
 add-result-2 c = omega (arith, entry-count-below (now (c .before .before .before .args .tray)) (λ i. c .before .before .shared-slice-known .given i .fits), c .before .entry-count .ensures)
--- src/tray.rt:34:1
+
 returns : tie.Need-returns
 unfolding inDirectory
 returns c = rw (← c .before .entry-count .ensures, lt-ltb _ _ (c .if1 .taken))
--- src/tray.rt:34:1
+
 returns-2 : tie.Need-returns-2
 unfolding inDirectory
 returns-2 c = rw (← c .before .entry-count .ensures, le-ltb _ _ (c .if1 .left))
+
 pub in-directory-spec : {M : Type 1} → statement M
 in-directory-spec =
     tie.close (tie.spec entry-count-requires add-result mul-result add-result-2 returns returns-2)

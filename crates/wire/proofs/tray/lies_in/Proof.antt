@@ -1,15 +1,13 @@
 -- `wire::tray::lies_in` meets its contract: a part that starts within the tray and is no longer than what is left lies in it.
 use Prim.Native.Nat.{ℕ, _+_, _-_, _≤_, _<_}
 use mathlib.Core.Path.{_≡_, sym}
-use borrow.Author.Tests.{lt-leb}
 use native.Mathlib.Omega.{arith}
+use borrow.Author.Needs.{needs}
+use borrow.Author.Tests.{lt-leb}
 use lib.Dec.{leb}
 use Rattle.wire.proofs.Tests.{leb-same}
-use borrow.Author.Needs.{needs}
 use Rattle.wire.proofs.tray.lies_in.Statement.{statement}
 use Rattle.wire.proofs.tray.lies_in.Tie as tie
-use Rattle.wire.proofs.tray.lies_in.Reads as reads
-use Rattle.wire.proofs.tray.lies_in.Lts as lts
 
 lies : (o n k : ℕ) → o ≤ k → leb n (k - o) ≡ leb (o + n) k
 lies o n k h = leb-same n (k - o) (o + n) k (λ l. omega arith) (λ l. omega arith)
@@ -17,15 +15,14 @@ lies o n k h = leb-same n (k - o) (o + n) k (λ l. omega arith) (λ l. omega ari
 past : (o n k : ℕ) → k < o → k < o + n
 past o n k h = omega arith
 
--- src/tray.rt:123:38
 sub-result : tie.Need-sub-result
 sub-result c = search needs
 
--- src/tray.rt:120:1
 returns : tie.Need-returns
 returns c = lies _ _ _ (c .if1 .taken)
--- src/tray.rt:120:1
+
 returns-2 : tie.Need-returns-2
 returns-2 c = sym (lt-leb _ _ (past _ _ _ (c .if1 .left)))
+
 pub lies-in-spec : {M : Type 1} → statement M
 lies-in-spec = tie.close (tie.spec sub-result returns returns-2)

@@ -1,23 +1,17 @@
 -- `wire::tray::well_formed` meets its contract: each test that was passed, and the first that was not, gives `wellFormed` its value.
+use Prim.Native.Nat.{ℕ}
 use mathlib.Core.Bool.{true, _&&_}
 use mathlib.Core.Path.{_≡_, sym, ap, _∙_}
+use borrow.Author.Needs.{needs}
 use borrow.Author.Tests.{le-leb, lt-leb, eq-eqb, ne-eqb}
 use denote.Ref.{now}
-use native.Mathlib.Omega.{arith}
 use lib.Dec.{leb, eqb}
 use lib.ListN.{length}
-use Prim.Native.Nat.{ℕ}
 use Rattle.wire.specs.Limits.{trayHeader, zeroAt, maxTray, maxEntries}
-use Rattle.wire.specs.Words.{halfAt}
 use Rattle.wire.specs.Tray.{wellFormed, entryCount, entryAt, chained}
-use borrow.Author.Needs.{needs}
+use Rattle.wire.specs.Words.{halfAt}
 use Rattle.wire.proofs.tray.well_formed.Statement.{statement}
 use Rattle.wire.proofs.tray.well_formed.Tie as tie
-use Rattle.wire.proofs.tray.well_formed.Reads as reads
-use Rattle.wire.proofs.tray.well_formed.Lts as lts
-use Rattle.wire.proofs.tray.entry_count.Reads as entry-count-reads
-use Rattle.wire.proofs.tray.frames_follow.Reads as frames-follow-reads
-use Rattle.wire.proofs.word.half.Reads as half-reads
 
 -- what each test that was passed says
 length-passed : (c : tie.Else2) → (leb trayHeader (length (now (c .before .before .before .args .tray))) && leb (length (now (c .before .before .before .args .tray))) maxTray) ≡ true
@@ -29,59 +23,49 @@ count-passed c = le-leb _ _ (rw (c .before .entry-count .ensures) at (c .if3 .le
 zero-passed : (c : tie.Else4) → eqb (halfAt (now (c .before .before .before .before .before .before .before .args .tray)) zeroAt) 0 ≡ true
 zero-passed c = eq-eqb _ _ (sym (c .before .half .ensures .0) ∙ c .if4 .left)
 
--- src/tray.rt:101:9
 returns : tie.Need-returns
 unfolding wellFormed
 returns c = rw (lt-leb _ _ (c .if1 .taken))
 
--- src/tray.rt:104:9
 returns-2 : tie.Need-returns-2
 unfolding wellFormed
 returns-2 c = rw (le-leb _ _ (c .before .if1 .left), lt-leb _ _ (c .if2 .taken))
 
--- src/tray.rt:106:9
 entry-count-requires : tie.Need-entry-count-requires
 entry-count-requires c κs = search needs
 
--- src/tray.rt:108:9
 returns-3 : tie.Need-returns-3
 unfolding wellFormed
 returns-3 c = rw (length-passed (c .before .before), lt-leb _ _ (rw (c .before .entry-count .ensures) at (c .if3 .taken)))
 
--- src/tray.rt:110:8
 half-requires : tie.Need-half-requires
 half-requires c κs = search needs
 
--- src/tray.rt:111:9
 returns-4 : tie.Need-returns-4
 unfolding wellFormed
 returns-4 c = rw (length-passed (c .before .before .before .before), count-passed (c .before .before), ne-eqb _ _ (λ e. c .if4 .taken (c .before .half .ensures .0 ∙ e)))
 
--- src/tray.rt:113:35
 mul-if5 : tie.Need-mul-if5
 mul-if5 c = search needs
 
--- src/tray.rt:113:21
 add-if5 : tie.Need-add-if5
 add-if5 c = search needs
 
--- src/tray.rt:114:9
 returns-5 : tie.Need-returns-5
 unfolding wellFormed
 returns-5 c = rw (length-passed (c .before .before .before .before .before), count-passed (c .before .before .before), zero-passed (c .before), lt-leb _ _ (rw (c .before .before .before .before .entry-count .ensures) at (c .if5 .taken)))
 
--- src/tray.rt:116:5
 frames-follow-requires : tie.Need-frames-follow-requires
 frames-follow-requires c κs = search needs
 
--- src/tray.rt:97:1
 returns-6 : tie.Need-returns-6
 unfolding wellFormed
-returns-6 c = rw
-    (length-passed (c .before .before .before .before .before .before),
-    count-passed (c .before .before .before .before),
-    zero-passed (c .before .before),
-    le-leb _ _ (rw (c .before .before .before .before .before .entry-count .ensures) at (c .before .if5 .left)))
+returns-6 c = rw (
+  length-passed (c .before .before .before .before .before .before),
+  count-passed (c .before .before .before .before),
+  zero-passed (c .before .before),
+  le-leb _ _ (rw (c .before .before .before .before .before .entry-count .ensures) at (c .before .if5 .left)),
+)
     (c .frames-follow .ensures ∙ ap (λ (n : ℕ). chained (now (c .before .before .before .before .before .before .before .before .before .args .tray)) n 0 (entryAt n)) (c .before .before .before .before .before .entry-count .ensures))
 
 pub well-formed-spec : {M : Type 1} → statement M
