@@ -324,11 +324,11 @@ fn rise(numbers: &[u32]) -> bool
     let mut last = 0;
     let mut i = 0;
     while i < numbers.len() {
-        let x = numbers[i];
-        if x <= last {
+        let number = numbers[i];
+        if number <= last {
             return false;
         }
-        last = x;
+        last = number;
         i += 1;
     }
     true
