@@ -6,6 +6,7 @@
 --     Content                   what a frame holds: its round, what it says, its numbers
 --     readRefusal s t           0, or 11 where the bytes s are void for round t
 --     content s t               the content of the bytes s, read in round t, if they have one
+--     readStored, readView      the reader's answer for a content or none, and the content that an answer holds
 --     writeRefusal c n          0, or the refusal for content c and an output buffer of n bytes: 10, then 3
 --     frameBytes c              the bytes of content c
 -- Bytes of a list are numbers below 256.
@@ -18,7 +19,7 @@ use lib.Dec.{leb, eqb}
 use lib.ListN.{length, getD, drop}
 use Rattle.wire.specs.Limits.{frameHeader, numberWidth, kindAt, bitAt, countAt, maxNumbers, maxFrame, lastRound}
 use Rattle.wire.specs.Words.{halfAt, wordAt, halfBytes, wordBytes, wordsAt, wordsBytes}
-use Rattle.wire.specs.Numbers.{rising, stored}
+use Rattle.wire.specs.Numbers.{rising, stored, listed}
 use Rattle.wire.specs.Refusal.{firstFailed}
 use Rattle.wire.specs.declared.frame.Choice.{Choice}
 use Rattle.wire.specs.declared.frame.Choice.the-variants.{Bit, None}
@@ -26,6 +27,7 @@ use Rattle.wire.specs.declared.frame.Said.{Said}
 use Rattle.wire.specs.declared.frame.Said.the-variants.{Init, Roster, Value, Proposal, Opinion}
 use Rattle.wire.specs.declared.frame.Read.{Read}
 use Rattle.wire.specs.declared.frame.Read.the-variants.{Valid, Void}
+use Rattle.wire.specs.declared.frame.Numbers.{Numbers}
 use Rattle.wire.specs.declared.frame.FrameRead.{FrameRead}
 use Rattle.wire.specs.declared.frame.Written.{Written}
 
@@ -114,6 +116,13 @@ content s t = cond (eqb (readRefusal s t) 0) (some (contentOf s t)) none
 abbrev pub readStored : Option Content → FrameRead
 readStored none = record { read = Void; numbers = stored [] }
 readStored (some c) = record { read = Valid (record { round = c .round; said = c .said }); numbers = stored (c .numbers) }
+
+abbrev pub viewOf : Read → Numbers → Option Content
+viewOf (Valid f) n = some (record { round = f .round; said = f .said; numbers = listed n })
+viewOf Void n = none
+
+abbrev pub readView : FrameRead → Option Content
+readView r = viewOf (r .read) (r .numbers)
 
 -- the paper's number of each case of `Read`, 0 for none
 abbrev pub numberRead : Read → ℕ

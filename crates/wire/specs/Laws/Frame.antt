@@ -2,7 +2,7 @@
 use Prim.Native.Nat.{ℕ, zero, suc, _+_, _*_, _%_, _≤_}
 use mathlib.Core.Bool.{Bool, true, false, cond, _&&_, and-eq-true-iff}
 use mathlib.Core.List.{List, [], _∷_, _++_, append-nil}
-use mathlib.Core.Option.{some, none}
+use mathlib.Core.Option.{Option, some, none}
 use mathlib.Core.Logic.{_≢_}
 use mathlib.Core.Path.{_≡_, refl, sym, ap, _∙_}
 use borrow.Author.Tests.{leb-true, eqb-true, eqb-false, le-leb, eq-eqb, ne-eqb}
@@ -19,9 +19,10 @@ use Rattle.wire.specs.declared.frame.Said.the-variants.{Init, Roster, Va
 use Rattle.wire.specs.declared.frame.FrameRead.{FrameRead}
 use Rattle.wire.specs.Words.{wordAt, wordsAt, wordsBytes, Below}
 use Rattle.wire.specs.Numbers.{rising}
+use Rattle.wire.specs.Laws.Numbers.{listed-stored}
 use Rattle.wire.specs.Laws.Words.{half-back, word-back, words-behind, words-back, words-length, byte-drop, half-drop, word-drop, words-drop}
 use Rattle.wire.specs.Refusal.{firstFailed}
-use Rattle.wire.specs.Frame.{maxCount, countOf, numbersOf, lengthFits, headFits, bodyFits, Content, readRefusal, contentOf, content, readStored, numberRead, FrameReads, kindOf, bitChosen, kindSaid, bitSaid, chosenBy, saidBy, bitFits, chosenFits, saidFits, roundFits, writable, headerBytes, frameBytes}
+use Rattle.wire.specs.Frame.{maxCount, countOf, numbersOf, lengthFits, headFits, bodyFits, Content, readRefusal, contentOf, content, readStored, readView, numberRead, FrameReads, kindOf, bitChosen, kindSaid, bitSaid, chosenBy, saidBy, bitFits, chosenFits, saidFits, roundFits, writable, headerBytes, frameBytes}
 
 pub max-count-bound : (k : ℕ) → maxCount k ≤ maxNumbers
 unfolding maxCount
@@ -69,6 +70,16 @@ frame-reads s t r e =
     pick : (a : Bool) → numberRead ((readStored (cond a (some (contentOf s t)) none)) .read) ≡ cond a 0 11
     pick true = refl
     pick false = refl
+
+view-stored : (o : Option Content) → readView (readStored o) ≡ o
+view-stored none = refl
+view-stored (some c) =
+    let numbers = listed-stored (c .numbers) in
+    λ i. some (record { round = c .round; said = c .said; numbers = numbers i })
+
+-- the reader's answer holds the content of the bytes
+pub read-view : (s : List ℕ) (t : ℕ) (r : FrameRead) → FrameReads s t r → readView r ≡ content s t
+read-view s t r f = ap readView (f .answer) ∙ view-stored (content s t)
 
 -- ---- writing
 
@@ -229,7 +240,7 @@ said-allowed k b =
 
 -- what content says of the bytes that it was read from
 pub record ReadFrom (s : List ℕ) (t : ℕ) (c : Content) : Type 0 where
-  pub length : lengthFits s ≡ true
+  pub whole : lengthFits s ≡ true
   pub head : headFits s t ≡ true
   pub body : bodyFits s t ≡ true
   pub content : contentOf s t ≡ c
@@ -242,7 +253,7 @@ content-gives s t c e = pick (fits s t) refl (sym (content-is s t) ∙ e)
     pick true h q =
         let e₂ = and-eq-true-iff (lengthFits s && headFits s t) (bodyFits s t) .0 h in
         let e₁ = and-eq-true-iff (lengthFits s) (headFits s t) .0 (e₂ .0) in
-        record { length = e₁ .0; head = e₁ .1; body = e₂ .1; content = cc }
+        record { whole = e₁ .0; head = e₁ .1; body = e₂ .1; content = cc }
     pick false h q = let z : _≡_ {A = ℕ} 0 1 = cc in absurd (omega arith)
 
 -- a frame's bytes, field by field
@@ -293,7 +304,7 @@ writes-read s t c b e =
     let bit = said-bit (kindOf t) (getD s bitAt 0) (k .0) (k .1) (body-gives s t (g .body) .bit) in
     let count = words-length s frameHeader (countOf s) in
     ap frameBytes (sym (g .content))
-    ∙ rw (kind, bit, count, sym (h .sent)) (frame-split s b (length-fits s (g .length)))
+    ∙ rw (kind, bit, count, sym (h .sent)) (frame-split s b (length-fits s (g .whole)))
 
 pub read-writable : (s : List ℕ) (t : ℕ) (c : Content) → content s t ≡ some c → writable c ≡ true
 unfolding writable
