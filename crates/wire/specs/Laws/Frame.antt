@@ -186,7 +186,7 @@ reads-written c h =
 
 -- ---- what reads as content is written as the same bytes
 
-kind-range : (t : ℕ) → (1 ≤ kindOf t) × (kindOf t ≤ 5)
+pub kind-range : (t : ℕ) → (1 ≤ kindOf t) × (kindOf t ≤ 5)
 unfolding kindOf
 kind-range t = pick (eqb t 1) (eqb t 2)
   where
@@ -214,11 +214,11 @@ module _ (P : ℕ → Type 0) (p₁ : P 1) (p₂ : P 2) (p₃ : P 3) (p₄ : P 4
   by-kind (suc (suc (suc (suc (suc zero))))) l u = p₅
   by-kind (suc (suc (suc (suc (suc (suc k)))))) l u = absurd (omega arith)
 
-said-kind : (k b : ℕ) → 1 ≤ k → k ≤ 5 → kindSaid (saidBy k b) ≡ k
+pub said-kind : (k b : ℕ) → 1 ≤ k → k ≤ 5 → kindSaid (saidBy k b) ≡ k
 unfolding saidBy
 said-kind k b = by-kind (λ (j : ℕ). kindSaid (saidBy j b) ≡ j) refl refl refl refl refl k
 
-said-bit : (k b : ℕ) → 1 ≤ k → k ≤ 5 → bitFits k b ≡ true → bitSaid (saidBy k b) ≡ b
+pub said-bit : (k b : ℕ) → 1 ≤ k → k ≤ 5 → bitFits k b ≡ true → bitSaid (saidBy k b) ≡ b
 unfolding saidBy bitFits
 said-bit k b =
     by-kind (λ (j : ℕ). bitFits j b ≡ true → bitSaid (saidBy j b) ≡ b)
@@ -232,7 +232,7 @@ chosen-allowed b h = pick (eqb b 2) refl
     pick true e = refl
     pick false e = let l = leb-true b 2 h in let n : b ≢ 2 = eqb-false b 2 e in le-leb b 1 (omega arith)
 
-said-allowed : (k b : ℕ) → 1 ≤ k → k ≤ 5 → bitFits k b ≡ true → saidFits (saidBy k b) ≡ true
+pub said-allowed : (k b : ℕ) → 1 ≤ k → k ≤ 5 → bitFits k b ≡ true → saidFits (saidBy k b) ≡ true
 unfolding saidBy bitFits
 said-allowed k b =
     by-kind (λ (j : ℕ). bitFits j b ≡ true → saidFits (saidBy j b) ≡ true)

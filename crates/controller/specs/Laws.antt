@@ -1,0 +1,8 @@
+-- Laws about the definitions, for the proofs of this crate and of the crates above it.
+pub mod Lists
+pub mod Received
+pub mod Refusals
+pub mod Rotation
+pub mod Rules
+pub mod State
+pub mod Thirds

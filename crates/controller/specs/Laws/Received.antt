@@ -1,0 +1,121 @@
+-- Laws of what is received: who is heard, and that a frame sent with a sound state reads back as what it says.
+use Prim.Native.Nat.{ℕ, _≤_, _<_}
+use mathlib.Core.Bool.{Bool, true, false, cond, _&&_}
+use mathlib.Core.List.{List, [], _∷_, List·Memᴰ·not-nil, List·Memᴰ·eq-of-singleton, Memᴰ·cast}
+use mathlib.Core.Logic.{inr, _⊎_, _↔_, _≢_}
+use mathlib.Core.Option.{Option, some, none}
+use mathlib.Core.Path.{_≡_, refl}
+use borrow.Author.Tests.{le-leb, eq-eqb, ne-eqb}
+use native.Mathlib.Omega.{arith}
+use lib.Dec.{eqb, ltb}
+use lib.ListN.{length}
+use Rattle.wire.specs.Frame.{Content, content, kindOf, kindSaid, bitSaid, frameBytes, roundFits, writable, maxCount}
+use Rattle.wire.specs.Laws.Frame.{kind-range, said-kind, said-bit, said-allowed, writable-gives, reads-written, read-writable}
+use Rattle.wire.specs.Limits.{maxNumbers, lastRound}
+use Rattle.wire.specs.Numbers.{rising}
+use Rattle.wire.specs.Tray.{Entry, firstBytes}
+use Rattle.controller.specs.Lists.{In, Rising}
+use Rattle.controller.specs.State.{View}
+use Rattle.controller.specs.Received.{frameOf, senders, heardAfter, readIn, received, says, opinionIn, listIn}
+use Rattle.controller.specs.Laws.Lists.{inside-length, insert-all-in, insert-all-rising, rising-gives, rising-test}
+use Rattle.controller.specs.Laws.State.{SoundList, Sound}
+
+pub heard-in : {x : ℕ} (v : View) (es : List Entry) → In x (heardAfter v es) ↔ (In x (senders es) ⊎ In x (v .heard))
+unfolding heardAfter
+heard-in v es = insert-all-in (senders es) (v .heard)
+
+pub heard-rising : (v : View) (es : List Entry) → Rising (v .heard) → Rising (heardAfter v es)
+unfolding heardAfter
+heard-rising v es up = insert-all-rising (senders es) (v .heard) up
+
+-- somebody, oneself, is always heard
+pub heard-some : (v : View) (es : List Entry) → Sound v → 0 < length (heardAfter v es)
+heard-some v es h =
+    inside-length (v .own ∷ []) (List·Memᴰ·not-nil, tt)
+    (λ x i. heard-in v es .1 (inr (Memᴰ·cast (List·Memᴰ·eq-of-singleton i) (h .hears-itself))))
+
+pub received-own : (v : View) (es : List Entry) → received v es (v .own) ≡ some (frameOf v)
+unfolding received
+received-own v es = rw (eq-eqb (v .own) (v .own) refl)
+
+pub received-other : (v : View) (es : List Entry) (x : ℕ) → x ≢ v .own → received v es x ≡ readIn (v .round) (firstBytes x es)
+unfolding received
+received-other v es x h = rw (ne-eqb x (v .own) h)
+
+-- ---- the frame of a sound state
+
+-- a kind that takes numbers takes all that a sound list has
+numbers-fit : (k : ℕ) (l : List ℕ) → SoundList l
+    → (length (cond (ltb 0 (maxCount k)) l []) ≤ maxCount k) × (rising 0 (cond (ltb 0 (maxCount k)) l []) ≡ true)
+unfolding maxCount
+numbers-fit k l h = pick (eqb k 2) (eqb k 5)
+  where
+    most : Bool → Bool → ℕ
+    most a b = cond a maxNumbers (cond b maxNumbers 0)
+
+    pick : (a b : Bool) → (length (cond (ltb 0 (most a b)) l []) ≤ most a b) × (rising 0 (cond (ltb 0 (most a b)) l []) ≡ true)
+    pick true b = (h .short, rising-test l (h .rises) (h .positive))
+    pick false true = (h .short, rising-test l (h .rises) (h .positive))
+    pick false false = (omega arith, refl)
+
+-- what it says, by kind and bit
+frame-kind : (v : View) → kindSaid ((frameOf v) .said) ≡ kindOf (v .round)
+unfolding frameOf
+frame-kind v = let k = kind-range (v .round) in said-kind (kindOf (v .round)) (v .said) (k .0) (k .1)
+
+frame-bit : (v : View) → Sound v → bitSaid ((frameOf v) .said) ≡ v .said
+unfolding frameOf
+frame-bit v h = let k = kind-range (v .round) in said-bit (kindOf (v .round)) (v .said) (k .0) (k .1) (h .said)
+
+-- the frame of a sound state is allowed, so it is written, and reads back
+pub frame-writable : (v : View) → Sound v → writable (frameOf v) ≡ true
+unfolding writable roundFits frameOf
+frame-writable v h =
+    let k = kind-range (v .round) in
+    let numbers = numbers-fit (kindOf (v .round)) (v .echoes) (h .echoes) in
+    rw (
+      le-leb 1 (v .round) (h .early),
+      le-leb (v .round) lastRound (h .late),
+      said-kind (kindOf (v .round)) (v .said) (k .0) (k .1),
+      eq-eqb (kindOf (v .round)) (kindOf (v .round)) refl,
+      said-allowed (kindOf (v .round)) (v .said) (k .0) (k .1) (h .said),
+      le-leb _ _ (numbers .0),
+      numbers .1,
+    )
+
+pub frame-reads : (v : View) → Sound v → content (frameBytes (frameOf v)) (v .round) ≡ some (frameOf v)
+unfolding frameOf
+frame-reads v h = reads-written (frameOf v) (frame-writable v h)
+
+-- what the frame of a sound state says
+pub frame-says : (v : View) → Sound v → (k b : ℕ) → says k b (some (frameOf v)) ≡ (eqb (kindOf (v .round)) k && eqb (v .said) b)
+frame-says v h k b = rw (frame-kind v, frame-bit v h)
+
+pub frame-opinion : (v : View) → Sound v → opinionIn (some (frameOf v)) ≡ cond (eqb (kindOf (v .round)) 5) (v .said) 2
+frame-opinion v h = rw (frame-kind v, frame-bit v h)
+
+pub frame-list : (v : View) → listIn (some (frameOf v)) ≡ cond (ltb 0 (maxCount (kindOf (v .round)))) (v .echoes) []
+unfolding frameOf
+frame-list v = refl
+
+-- ---- what is received is allowed
+
+read-allowed : (t : ℕ) (b : Option (List ℕ)) (c : Content) → readIn t b ≡ some c → writable c ≡ true
+read-allowed t none c e = let z : _≡_ {A = ℕ} 0 1 = cc in absurd (omega arith)
+read-allowed t (some b) c e = read-writable b t c e
+
+received-allowed : (v : View) (es : List Entry) → Sound v → (x : ℕ) (c : Content) → received v es x ≡ some c → writable c ≡ true
+unfolding received
+received-allowed v es h x c = pick (eqb x (v .own))
+  where
+    pick : (t : Bool) → cond t (some (frameOf v)) (readIn (v .round) (firstBytes x es)) ≡ some c → writable c ≡ true
+    pick true e = let same : frameOf v ≡ c = cc in rw same at (frame-writable v h)
+    pick false e = read-allowed (v .round) (firstBytes x es) c e
+
+list-positive : (o : Option Content) → ((c : Content) → o ≡ some c → writable c ≡ true) → (y : ℕ) → In y (listIn o) → 0 < y
+list-positive none allowed y i = absurd (List·Memᴰ·not-nil i)
+list-positive (some c) allowed y i = rising-gives (c .numbers) (writable-gives c (allowed c refl) .rise) .1 y i
+
+-- the numbers of a frame that was read, or of the own frame of a sound state, are above 0
+pub received-positive : (v : View) (es : List Entry) → Sound v → (x y : ℕ) → In y (listIn (received v es x)) → 0 < y
+received-positive v es h x = list-positive (received v es x) (received-allowed v es h x)

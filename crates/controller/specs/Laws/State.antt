@@ -1,0 +1,264 @@
+-- Laws of states: what soundness gives, and that a sound state is determined by its view.
+use Prim.Native.Nat.{ℕ, _+_, _-_, _≤_, _<_}
+use mathlib.Core.Bool.{Bool, true, false, not, cond, _&&_, true≢false, and-eq-true-iff}
+use mathlib.Core.List.{List, [], _∷_, _++_, List·Memᴰ·head, List·Memᴰ·cases-cons, List·Memᴰ·not-nil}
+use mathlib.Core.Logic.{inl, inr, _≢_, _↔_}
+use mathlib.Core.Path.{_≡_, refl, sym, ap, _∙_}
+use borrow.Author.Tests.{leb-true, eqb-true, eqb-false, not-true, le-leb, eq-eqb, ne-eqb}
+use native.Mathlib.Omega.{arith}
+use lib.Dec.{leb, eqb}
+use lib.ListN.{length, replicate, length-append, length-take, length-replicate}
+use Rattle.wire.specs.Frame.{kindOf, bitFits, roundFits}
+use Rattle.wire.specs.Limits.{maxNumbers, lastRound}
+use Rattle.wire.specs.Numbers.{rising, stored, listed}
+use Rattle.wire.specs.Laws.Numbers.{listed-stored}
+use Rattle.wire.specs.declared.frame.Numbers.{Numbers}
+use Rattle.controller.specs.Lists.{In, mem, Rising}
+use Rattle.controller.specs.State.{View, view, image, startView, same, soundList, none, soundSaid, soundEmpty, sound}
+use Rattle.controller.specs.Laws.Lists.{in-mem, mem-in, rising-gives, rising-test}
+use Rattle.controller.specs.declared.state.State.{State}
+
+pub view-image : (v : View) → view (image v) ≡ v
+view-image v =
+    let heard = listed-stored (v .heard) in
+    let candidates = listed-stored (v .candidates) in
+    let echoes = listed-stored (v .echoes) in
+    λ i.
+    record {
+      own = v .own;
+      round = v .round;
+      bit = v .bit;
+      said = v .said;
+      strong = v .strong;
+      king = v .king;
+      decision = v .decision;
+      heard = heard i;
+      candidates = candidates i;
+      echoes = echoes i;
+    }
+
+-- a list as a sound state has it
+pub record SoundList (l : List ℕ) : Type 0 where
+  pub short : length l ≤ maxNumbers
+  pub rises : Rising l
+  pub positive : (x : ℕ) → In x l → 0 < x
+
+-- what soundness says of the view, rule by rule
+pub record Sound (v : View) : Type 0 where
+  pub early : 1 ≤ v .round
+  pub late : v .round ≤ lastRound
+  pub numbered : v .own ≢ 0
+  pub hears-itself : In (v .own) (v .heard)
+  pub heard : SoundList (v .heard)
+  pub candidates : SoundList (v .candidates)
+  pub echoes : SoundList (v .echoes)
+  pub said : bitFits (kindOf (v .round)) (v .said) ≡ true
+  pub said-value : kindOf (v .round) ≡ 3 → v .said ≡ v .bit
+  pub no-candidates : v .round ≤ 2 → v .candidates ≡ []
+  pub no-echoes : v .round ≤ 1 → v .echoes ≡ []
+  pub bit : v .bit ≤ 1
+  pub strong : v .strong ≤ 1
+  pub decision : v .decision ≤ 2
+
+-- ---- the tests that soundness is made of
+
+same-gives : (l m : List ℕ) → same l m ≡ true → l ≡ m
+same-gives [] [] h = refl
+same-gives [] (y ∷ m) h = absurd (true≢false (sym h))
+same-gives (x ∷ l) [] h = absurd (true≢false (sym h))
+same-gives (x ∷ l) (y ∷ m) h =
+    let both = and-eq-true-iff (eqb x y) (same l m) .0 h in
+    let head = eqb-true x y (both .0) in
+    let tail = same-gives l m (both .1) in
+    cc
+
+same-test : (l : List ℕ) → same l l ≡ true
+same-test [] = refl
+same-test (x ∷ l) = rw (eq-eqb x x refl) (same-test l)
+
+none-gives : (l : List ℕ) → none l ≡ true → l ≡ []
+none-gives [] h = refl
+none-gives (x ∷ l) h = absurd (omega (arith, eqb-true (length (x ∷ l)) 0 h))
+
+-- b is tested only where a holds
+when-is : (a b : Bool) → (cond a b true ≡ true) ↔ (a ≡ true → b ≡ true)
+when-is true b = (λ h e. h, λ f. f refl)
+when-is false b = (λ h e. absurd (true≢false (sym e)), λ f. refl)
+
+-- a list that passes is short and rises from above 0, and its stored form is the one in hand
+record ListTests (n : Numbers) : Type 0 where
+  list : SoundList (listed n)
+  back : stored (listed n) ≡ n
+
+list-gives : (n : Numbers) → soundList n ≡ true → ListTests n
+list-gives n h =
+    let l = listed n in
+    let e₂ = and-eq-true-iff (leb (n .len) maxNumbers && rising 0 l) (same (n .at) ((stored l) .at)) .0 h in
+    let e₁ = and-eq-true-iff (leb (n .len) maxNumbers) (rising 0 l) .0 (e₂ .0) in
+    let few : n .len ≤ maxNumbers = leb-true _ _ (e₁ .0) in
+    let up = rising-gives l (e₁ .1) in
+    let at : n .at ≡ l ++ replicate (maxNumbers - length l) 0 = same-gives _ _ (e₂ .1) in
+    let size : length (n .at) ≡ length l + (maxNumbers - length l) = ap length at ∙ simp (length-append, length-replicate) in
+    let len : length l ≡ n .len = omega (arith, length-take (n .len) (n .at)) in
+    record {
+      list = record { short = omega arith; rises = up .0; positive = up .1 };
+      back = λ i. record { len = len i; at = sym at i };
+    }
+
+list-test : (l : List ℕ) → SoundList l → soundList (stored l) ≡ true
+list-test l h =
+    rw (listed-stored l, le-leb (length l) maxNumbers (h .short), rising-test l (h .rises) (h .positive))
+    (same-test ((stored l) .at))
+
+-- the tests of soundness, one by one
+record Tests (s : State) : Type 0 where
+  round : roundFits (s .round) ≡ true
+  numbered : not (eqb (s .own) 0) ≡ true
+  hears-itself : mem (s .own) (listed (s .heard)) ≡ true
+  heard : soundList (s .heard) ≡ true
+  candidates : soundList (s .candidates) ≡ true
+  echoes : soundList (s .echoes) ≡ true
+  said : soundSaid (view s) ≡ true
+  empty : soundEmpty (view s) ≡ true
+  bit : leb (s .bit) 1 ≡ true
+  strong : leb (s .strong) 1 ≡ true
+  decision : leb (s .decision) 2 ≡ true
+
+tests-give : (s : State) → sound s ≡ true → Tests s
+unfolding sound
+tests-give s h =
+    let e₅ = and-eq-true-iff _ (leb (s .bit) 1 && leb (s .strong) 1 && leb (s .decision) 2) .0 h in
+    let e₄ = and-eq-true-iff _ (soundEmpty (view s)) .0 (e₅ .0) in
+    let e₃ = and-eq-true-iff _ (soundSaid (view s)) .0 (e₄ .0) in
+    let e₂ = and-eq-true-iff _ (soundList (s .heard) && soundList (s .candidates) && soundList (s .echoes)) .0 (e₃ .0) in
+    let e₁ = and-eq-true-iff (roundFits (s .round)) (not (eqb (s .own) 0) && mem (s .own) (listed (s .heard))) .0 (e₂ .0) in
+    let own = and-eq-true-iff (not (eqb (s .own) 0)) (mem (s .own) (listed (s .heard))) .0 (e₁ .1) in
+    let lists = and-eq-true-iff (soundList (s .heard) && soundList (s .candidates)) (soundList (s .echoes)) .0 (e₂ .1) in
+    let firsts = and-eq-true-iff (soundList (s .heard)) (soundList (s .candidates)) .0 (lists .0) in
+    let bits = and-eq-true-iff (leb (s .bit) 1 && leb (s .strong) 1) (leb (s .decision) 2) .0 (e₅ .1) in
+    let pair = and-eq-true-iff (leb (s .bit) 1) (leb (s .strong) 1) .0 (bits .0) in
+    record {
+      round = e₁ .0;
+      numbered = own .0;
+      hears-itself = own .1;
+      heard = firsts .0;
+      candidates = firsts .1;
+      echoes = lists .1;
+      said = e₃ .1;
+      empty = e₄ .1;
+      bit = pair .0;
+      strong = pair .1;
+      decision = bits .1;
+    }
+
+tests-sound : (s : State) → Tests s → sound s ≡ true
+unfolding sound
+tests-sound s t =
+    rw (
+      t .round,
+      t .numbered,
+      t .hears-itself,
+      t .heard,
+      t .candidates,
+      t .echoes,
+      t .said,
+      t .empty,
+      t .bit,
+      t .strong,
+      t .decision,
+    )
+
+-- ---- soundness
+
+pub sound-gives : (s : State) → sound s ≡ true → Sound (view s)
+unfolding roundFits
+sound-gives s h =
+    let t = tests-give s h in
+    let round = and-eq-true-iff (leb 1 (s .round)) (leb (s .round) lastRound) .0 (t .round) in
+    let said = and-eq-true-iff (bitFits (kindOf (s .round)) (s .said)) _ .0 (t .said) in
+    let empty = and-eq-true-iff (cond (leb (s .round) 2) (none (listed (s .candidates))) true) _ .0 (t .empty) in
+    record {
+      early = leb-true _ _ (round .0);
+      late = leb-true _ _ (round .1);
+      numbered = eqb-false _ _ (not-true _ (t .numbered));
+      hears-itself = mem-in _ (t .hears-itself);
+      heard = list-gives (s .heard) (t .heard) .list;
+      candidates = list-gives (s .candidates) (t .candidates) .list;
+      echoes = list-gives (s .echoes) (t .echoes) .list;
+      said = said .0;
+      said-value = λ e. eqb-true _ _ (when-is _ _ .0 (said .1) (eq-eqb _ _ e));
+      no-candidates = λ l. none-gives _ (when-is _ _ .0 (empty .0) (le-leb _ _ l));
+      no-echoes = λ l. none-gives _ (when-is _ _ .0 (empty .1) (le-leb _ _ l));
+      bit = leb-true _ _ (t .bit);
+      strong = leb-true _ _ (t .strong);
+      decision = leb-true _ _ (t .decision);
+    }
+
+-- a sound state is the stored form of its view
+pub sound-stored : (s : State) → sound s ≡ true → image (view s) ≡ s
+sound-stored s h =
+    let t = tests-give s h in
+    let heard = list-gives (s .heard) (t .heard) .back in
+    let candidates = list-gives (s .candidates) (t .candidates) .back in
+    let echoes = list-gives (s .echoes) (t .echoes) .back in
+    λ i.
+    record {
+      own = s .own;
+      round = s .round;
+      bit = s .bit;
+      said = s .said;
+      strong = s .strong;
+      king = s .king;
+      decision = s .decision;
+      heard = heard i;
+      candidates = candidates i;
+      echoes = echoes i;
+    }
+
+pub sound-test : (v : View) → Sound v → sound (image v) ≡ true
+unfolding roundFits
+sound-test v h =
+    tests-sound (image v)
+    record {
+      round = and-eq-true-iff (leb 1 (v .round)) (leb (v .round) lastRound) .1 (le-leb _ _ (h .early), le-leb _ _ (h .late));
+      numbered = ap not (ne-eqb _ _ (h .numbered));
+      hears-itself = rw (listed-stored (v .heard)) (in-mem (h .hears-itself));
+      heard = list-test (v .heard) (h .heard);
+      candidates = list-test (v .candidates) (h .candidates);
+      echoes = list-test (v .echoes) (h .echoes);
+      said = and-eq-true-iff _ _ .1 (h .said, when-is _ _ .1 (λ e. eq-eqb _ _ (h .said-value (eqb-true _ _ e))));
+      empty =
+          and-eq-true-iff _ _ .1 (
+            when-is (leb (v .round) 2) (none (listed (stored (v .candidates)))) .1 (λ e. rw (listed-stored (v .candidates), h .no-candidates (leb-true _ _ e))),
+            when-is (leb (v .round) 1) (none (listed (stored (v .echoes)))) .1 (λ e. rw (listed-stored (v .echoes), h .no-echoes (leb-true _ _ e))),
+          );
+      bit = le-leb _ _ (h .bit);
+      strong = le-leb _ _ (h .strong);
+      decision = le-leb _ _ (h .decision);
+    }
+
+pub start-sound : (number bit : ℕ) → number ≢ 0 → bit ≤ 1 → Sound (startView number bit)
+unfolding kindOf bitFits
+start-sound number bit h b =
+    let empty : SoundList [] = record { short = omega arith; rises = tt; positive = λ x i. absurd (List·Memᴰ·not-nil i) } in
+    record {
+      early = omega arith;
+      late = omega arith;
+      numbered = h;
+      hears-itself = List·Memᴰ·head refl;
+      heard =
+          record {
+            short = omega arith;
+            rises = (λ x i. absurd (List·Memᴰ·not-nil i), tt);
+            positive = λ x i. elim (List·Memᴰ·cases-cons i) [ inl e ↦ omega arith | inr j ↦ absurd (List·Memᴰ·not-nil j) ];
+          };
+      candidates = empty;
+      echoes = empty;
+      said = refl;
+      said-value = λ e. absurd (omega arith);
+      no-candidates = λ l. refl;
+      no-echoes = λ l. refl;
+      bit = b;
+      strong = omega arith;
+      decision = omega arith;
+    }

@@ -1,0 +1,11 @@
+-- What the crate's contracts cite. Each file opens with the section of document 01 that it renders; the laws stand apart, below `Laws`.
+pub mod Lists
+pub mod Thirds
+pub mod State
+pub mod Received
+pub mod Rotation
+pub mod Bit
+pub mod Rules
+pub mod Refusals
+pub mod Calls
+pub mod Laws

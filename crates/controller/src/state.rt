@@ -1,0 +1,29 @@
+// A controller's state, as document 01, "A controller's state", lists it, and what a call returns.
+use wire::frame::Numbers;
+
+pub struct State {
+    // The own number.
+    pub own: u32,
+    // The last round sent.
+    pub round: u32,
+    // The own bit, 0 or 1.
+    pub bit: u8,
+    // The bit said in the last frame, 2 for none.
+    pub said: u8,
+    // 1 where two thirds proposed the own bit.
+    pub strong: u8,
+    // The coordinator of the phase, document 01's "king"; 0 for none.
+    pub king: u32,
+    // The decision, 2 for none.
+    pub decision: u8,
+    pub heard: Numbers,
+    pub candidates: Numbers,
+    pub echoes: Numbers,
+}
+
+// The refusal, 0 for none; the state after the call; the length of the frame written, 0 when refused.
+pub struct Answer {
+    pub refusal: u8,
+    pub state: State,
+    pub length: usize,
+}

@@ -1,0 +1,105 @@
+-- The run of demand 3: document 01, "The run of demand 3", sentence by sentence.
+--     TrayCall, StartCall      a call with what went in and what came out, and that its promise holds of them
+--     Controller               a proper controller's list of calls
+--     Sent c t b               b is the frame that c sent for round t
+--     Delivers l f p t b       the line's guarantee for a tray b of round t to the controller p, among the proper ones l and the faulty ones f
+--     Run                      a run
+-- Members of lists of records are given by `Member`, the library's membership.
+use Prim.Native.Nat.{ℕ, _+_, _*_, _≤_, _<_}
+use mathlib.Core.List.{List, [], _∷_, _++_, map, List·Memᴰ}
+use mathlib.Core.Logic.{_⊎_, _≢_}
+use mathlib.Core.Bool.{true}
+use mathlib.Core.Path.{_≡_}
+use lib.ListN.{length, take}
+use Rattle.wire.specs.Tray.{Entry, wellFormed, roundOf, entries}
+use Rattle.controller.specs.Lists.{In, NoRepeats}
+use Rattle.controller.specs.Received.{senders}
+use Rattle.controller.specs.Calls.{StartPromise, TrayPromise}
+use Rattle.controller.specs.declared.state.State.{State}
+use Rattle.controller.specs.declared.state.Answer.{Answer}
+
+abbrev pub Member : {A : Type 0} → A → List A → Type 0
+Member x l = List·Memᴰ x l
+
+-- ---- calls
+
+pub record StartCall (number : ℕ) : Type 0 where
+  -- the bit given to the start, "the one it brought in"
+  pub bit : ℕ
+  -- the output buffer at entry and at exit
+  pub before : List ℕ
+  pub after : List ℕ
+  pub answer : Answer
+  pub promise : StartPromise number bit before answer after
+
+pub record TrayCall : Type 0 where
+  pub state : State
+  pub tray : List ℕ
+  pub before : List ℕ
+  pub after : List ℕ
+  pub answer : Answer
+  pub promise : TrayPromise state tray before answer after
+
+-- "trays, worked or refused"
+abbrev pub Worked : TrayCall → Type 0
+Worked k = k .answer .refusal ≡ 0
+
+-- "Each tray is handed over with the state that the call before it returned, and nothing else writes that state in between"
+abbrev pub HandedOn : State → List TrayCall → Type 0
+HandedOn s [] = Unit {0}
+HandedOn s (k ∷ ks) = (k .state ≡ s) × HandedOn (k .answer .state) ks
+
+-- "Each proper one has a list of calls on its own state and no other: a start with its number and a bit, not refused, then trays"
+pub record Controller : Type 0 where
+  pub number : ℕ
+  pub start : StartCall number
+  pub started : start .answer .refusal ≡ 0
+  pub trays : List TrayCall
+  pub handed : HandedOn (start .answer .state) trays
+
+-- the states that a controller's calls return, in order
+abbrev pub states : Controller → List State
+states c = c .start .answer .state ∷ map (λ (k : TrayCall). k .answer .state) (c .trays)
+
+-- "The frame sent for round t is what the call that made round t wrote, up to the returned length; start makes round 1"
+abbrev pub Sent : Controller → ℕ → List ℕ → Type 0
+Sent c t b =
+    ((t ≡ 1) × (b ≡ take (c .start .answer .length) (c .start .after)))
+    ⊎ ((k : TrayCall) × Member k (c .trays) × Worked k × (k .answer .state .round ≡ t) × (b ≡ take (k .answer .length) (k .after)))
+
+-- ---- the line
+
+abbrev pub numbers : List Controller → List ℕ
+numbers l = map (λ (c : Controller). c .number) l
+
+abbrev pub everyone : List Controller → List ℕ → List ℕ
+everyone proper faulty = numbers proper ++ faulty
+
+-- the line's guarantee. "Entries under faulty numbers are free in count and bytes, for each receiver and each round"
+pub record Delivers (proper : List Controller) (faulty : List ℕ) (receiver t : ℕ) (tray : List ℕ) : Type 0 where
+  -- "it is well packed, its round is t"
+  pub packed : wellFormed tray ≡ true
+  pub round : roundOf tray ≡ t
+  -- "each sender in it is one of the other n − 1 numbers"
+  pub others : (x : ℕ) → In x (senders (entries tray)) → In x (everyone proper faulty) × (x ≢ receiver)
+  -- "each other proper one has an entry"
+  pub present : (c : Controller) → Member c proper → c .number ≢ receiver → In (c .number) (senders (entries tray))
+  -- "the bytes of every entry under its number are the frame which it sent for round t"
+  pub frames : (e : Entry) → Member e (entries tray) → (c : Controller) → Member c proper → e .sender ≡ c .number → Sent c t (e .bytes)
+
+-- ---- the run
+
+pub record Run : Type 0 where
+  -- "Of these f are faulty .. the others are proper"
+  pub proper : List Controller
+  pub faulty : List ℕ
+  -- "A run has n controllers, 1 to 64"
+  pub size : (1 ≤ length (everyone proper faulty)) × (length (everyone proper faulty) ≤ 64)
+  -- "with n different numbers, none 0"
+  pub differ : NoRepeats (everyone proper faulty)
+  pub nonzero : (x : ℕ) → In x (everyone proper faulty) → x ≢ 0
+  -- "with 3f < n"
+  pub few : 3 * length faulty < length (everyone proper faulty)
+  -- "For each round t up to 2 + 3n for which a proper controller sent a frame, it works one tray of round t, and that tray keeps the guarantee"
+  pub works : (c : Controller) → Member c proper → (t : ℕ) → t ≤ 2 + 3 * length (everyone proper faulty) → (b : List ℕ) → Sent c t b
+      → (k : TrayCall) × Member k (c .trays) × Worked k × Delivers proper faulty (c .number) t (k .tray)
