@@ -16,6 +16,8 @@ pub record Decides (n bit : ℕ) (c : Controller) : Type 0 where
   pub deciding : State
   pub later : List State
   pub order : states c ≡ earlier ++ deciding ∷ later
+  -- it is the first that decides, so no state of the list has another decision
+  pub undecided : (s : State) → Member s earlier → s .decision ≡ 2
   pub timely : deciding .round ≤ 3 + 3 * n
   pub decision : deciding .decision ≡ bit
   pub kept : (s : State) → Member s later → s .decision ≡ bit
@@ -24,12 +26,12 @@ pub record Outcome (r : Run) : Type 0 where
   -- "the decisions of all proper ones are equal", and none is 2
   pub bit : ℕ
   pub decided : bit ≢ 2
-  pub agreement : (c : Controller) → Member c (r .proper) → Decides (length (everyone (r .proper) (r .faulty))) bit c
+  pub agreement : (c : Controller) → Member c (r .correct) → Decides (length (everyone (r .correct) (r .faulty))) bit c
   -- "and the bit is one that a proper one brought in"
-  pub validity : (c : Controller) × Member c (r .proper) × (c .start .bit ≡ bit)
+  pub validity : (c : Controller) × Member c (r .correct) × (c .start .bit ≡ bit)
   -- "A tray of round t, up to 2 + 3n, that keeps the guarantee is refused only under 3 by a proper controller whose state is of round t and
   -- which sent a frame for t"
-  pub refusals : (c : Controller) → Member c (r .proper) → (k : TrayCall) → Member (k .state) (states c)
-      → k .state .round ≤ 2 + 3 * length (everyone (r .proper) (r .faulty))
-      → Delivers (r .proper) (r .faulty) (c .number) (k .state .round) (k .tray)
+  pub refusals : (c : Controller) → Member c (r .correct) → (k : TrayCall) → Member (k .state) (states c)
+      → k .state .round ≤ 2 + 3 * length (everyone (r .correct) (r .faulty))
+      → Delivers (r .correct) (r .faulty) (c .number) (k .state .round) (k .tray)
       → (k .answer .refusal ≡ 0) ⊎ (k .answer .refusal ≡ 3)

@@ -41,8 +41,8 @@ pub record TrayCall : Type 0 where
   pub promise : TrayPromise state tray before answer after
 
 -- "trays, worked or refused"
-abbrev pub Worked : TrayCall → Type 0
-Worked k = k .answer .refusal ≡ 0
+abbrev pub Accepted : TrayCall → Type 0
+Accepted k = k .answer .refusal ≡ 0
 
 -- "Each tray is handed over with the state that the call before it returned, and nothing else writes that state in between"
 abbrev pub HandedOn : State → List TrayCall → Type 0
@@ -65,7 +65,7 @@ states c = c .start .answer .state ∷ map (λ (k : TrayCall). k .answer .state)
 abbrev pub Sent : Controller → ℕ → List ℕ → Type 0
 Sent c t b =
     ((t ≡ 1) × (b ≡ take (c .start .answer .length) (c .start .after)))
-    ⊎ ((k : TrayCall) × Member k (c .trays) × Worked k × (k .answer .state .round ≡ t) × (b ≡ take (k .answer .length) (k .after)))
+    ⊎ ((k : TrayCall) × Member k (c .trays) × Accepted k × (k .answer .state .round ≡ t) × (b ≡ take (k .answer .length) (k .after)))
 
 -- ---- the line
 
@@ -73,33 +73,33 @@ abbrev pub numbers : List Controller → List ℕ
 numbers l = map (λ (c : Controller). c .number) l
 
 abbrev pub everyone : List Controller → List ℕ → List ℕ
-everyone proper faulty = numbers proper ++ faulty
+everyone correct faulty = numbers correct ++ faulty
 
 -- the line's guarantee. "Entries under faulty numbers are free in count and bytes, for each receiver and each round"
-pub record Delivers (proper : List Controller) (faulty : List ℕ) (receiver t : ℕ) (tray : List ℕ) : Type 0 where
+pub record Delivers (correct : List Controller) (faulty : List ℕ) (receiver t : ℕ) (tray : List ℕ) : Type 0 where
   -- "it is well packed, its round is t"
   pub packed : wellFormed tray ≡ true
   pub round : roundOf tray ≡ t
   -- "each sender in it is one of the other n − 1 numbers"
-  pub others : (x : ℕ) → In x (senders (entries tray)) → In x (everyone proper faulty) × (x ≢ receiver)
+  pub others : (x : ℕ) → In x (senders (entries tray)) → In x (everyone correct faulty) × (x ≢ receiver)
   -- "each other proper one has an entry"
-  pub present : (c : Controller) → Member c proper → c .number ≢ receiver → In (c .number) (senders (entries tray))
+  pub present : (c : Controller) → Member c correct → c .number ≢ receiver → In (c .number) (senders (entries tray))
   -- "the bytes of every entry under its number are the frame which it sent for round t"
-  pub frames : (e : Entry) → Member e (entries tray) → (c : Controller) → Member c proper → e .sender ≡ c .number → Sent c t (e .bytes)
+  pub frames : (e : Entry) → Member e (entries tray) → (c : Controller) → Member c correct → e .sender ≡ c .number → Sent c t (e .bytes)
 
 -- ---- the run
 
 pub record Run : Type 0 where
   -- "Of these f are faulty .. the others are proper"
-  pub proper : List Controller
+  pub correct : List Controller
   pub faulty : List ℕ
   -- "A run has n controllers, 1 to 64"
-  pub size : (1 ≤ length (everyone proper faulty)) × (length (everyone proper faulty) ≤ 64)
+  pub size : (1 ≤ length (everyone correct faulty)) × (length (everyone correct faulty) ≤ 64)
   -- "with n different numbers, none 0"
-  pub differ : NoRepeats (everyone proper faulty)
-  pub nonzero : (x : ℕ) → In x (everyone proper faulty) → x ≢ 0
+  pub differ : NoRepeats (everyone correct faulty)
+  pub nonzero : (x : ℕ) → In x (everyone correct faulty) → x ≢ 0
   -- "with 3f < n"
-  pub few : 3 * length faulty < length (everyone proper faulty)
+  pub few : 3 * length faulty < length (everyone correct faulty)
   -- "For each round t up to 2 + 3n for which a proper controller sent a frame, it works one tray of round t, and that tray keeps the guarantee"
-  pub works : (c : Controller) → Member c proper → (t : ℕ) → t ≤ 2 + 3 * length (everyone proper faulty) → (b : List ℕ) → Sent c t b
-      → (k : TrayCall) × Member k (c .trays) × Worked k × Delivers proper faulty (c .number) t (k .tray)
+  pub works : (c : Controller) → Member c correct → (t : ℕ) → t ≤ 2 + 3 * length (everyone correct faulty) → (b : List ℕ) → Sent c t b
+      → (k : TrayCall) × Member k (c .trays) × Accepted k × Delivers correct faulty (c .number) t (k .tray)

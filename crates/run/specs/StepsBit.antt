@@ -1,0 +1,376 @@
+-- Steps of the published rules are a bit instance over their coordinator rotation.
+-- Serves document 01's "The run of demand 3".
+--     bitIn k o         the bit of a received frame of kind k, 2 for anything else
+--     bits S            the bit instance
+--     bit-rules S K     it keeps the rules of a bit instance
+--     first-value S K   the first value sent is the bit brought in
+use Prim.Native.Nat.{ℕ, zero, suc, _+_, _≤_, _<_, zero-le}
+use mathlib.Core.Bool.{Bool, true, false, not, cond, _&&_, true≢false, and-eq-true-iff}
+use mathlib.Core.List.{List, [], _∷_}
+use mathlib.Core.Logic.{_⊎_, inl, inr, _↔_}
+use mathlib.Core.Option.{Option, some, none}
+use mathlib.Core.Path.{_≡_, refl, sym, ap, _∙_}
+use native.Mathlib.Omega.{arith}
+use borrow.Author.Tests.{leb-true, le-leb, ltb-true, lt-ltb, eq-eqb, eqb-true, eqb-false, ne-eqb, not-true, not-false}
+use lib.Dec.{eqb, leb, ltb}
+use lib.ListN.{length}
+use Rattle.wire.specs.Frame.{Content, kindOf, kindSaid, bitSaid}
+use Rattle.wire.specs.Tray.{Entry}
+use Rattle.controller.specs.Lists.{In, countIf}
+use Rattle.controller.specs.State.{View, undecided}
+use Rattle.controller.specs.Received.{frameOf, heardAfter, received, says, opinionIn, count}
+use Rattle.controller.specs.Rotation.{phase, decides}
+use Rattle.controller.specs.Bit.{kingOpinion, bitTaken, decisionAfter, valueTwoThirds, proposalThird, proposalTwoThirds, proposal, bitAdopted, strongAfter, opinion}
+use Rattle.controller.specs.Laws.State.{Sound}
+use Rattle.controller.specs.Laws.Thirds.{third-is, two-thirds-is}
+use Rattle.controller.specs.Laws.Received.{frame-says}
+use Rattle.run.specs.Counting.{Third, TwoThirds, two-thirds-apart}
+use Rattle.run.specs.Bit.{BitInstance, BitRules, values, ValueTwoThirds, ProposalThird, ProposalTwoThirds}
+use Rattle.run.specs.Steps.{Steps, all, Timely, StepRules}
+use Rattle.run.specs.StepsLaws.{few-faulty, state-own, state-round}
+use Rattle.run.specs.StepsRotation.{turnRound, valueRound, proposeRound, kind-value, kind-propose, kind-turn, cond-holds, before, hadFrom, rotation}
+use Rattle.run.specs.StepsRotation.{timely-turn, timely-value, timely-propose, step-roster, step-value, step-propose, step-turn, before-same}
+use Rattle.run.specs.StepsRotation.{undecided-before, undecided-after, phase-here, heard-in-round, received-sent}
+
+abbrev pub bitIn : ℕ → Option Content → ℕ
+bitIn k none = 2
+bitIn k (some c) = cond (eqb (kindSaid (c .said)) k) (bitSaid (c .said)) 2
+
+-- ---- tests and claims
+
+iff-false : {A : Type 0} (b : Bool) → (b ≡ true) ↔ A → (¬ A) → b ≡ false
+iff-false true law n = absurd (n (law .0 refl))
+iff-false false law n = refl
+
+iff-same : (a b : Bool) → (a ≡ true) ↔ (b ≡ true) → a ≡ b
+iff-same true b law = sym (law .0 refl)
+iff-same false true law = law .1 refl
+iff-same false false law = refl
+
+-- ---- any state, any entries
+
+says-bit : (k b : ℕ) (o : Option Content) → b < 2 → says k b o ≡ eqb (bitIn k o) b
+says-bit k b none h = sym (ne-eqb 2 b (λ e. absurd (omega arith)))
+says-bit k b (some c) h = pick (eqb (kindSaid (c .said)) k)
+  where
+    pick : (t : Bool) → (t && eqb (bitSaid (c .said)) b) ≡ eqb (cond t (bitSaid (c .said)) 2) b
+    pick true = refl
+    pick false = sym (ne-eqb 2 b (λ e. absurd (omega arith)))
+
+opinion-bit : (o : Option Content) → opinionIn o ≡ bitIn 5 o
+opinion-bit none = refl
+opinion-bit (some c) = refl
+
+-- the frame of a sound state has the bit that the state says
+bit-sent : (v : View) (k : ℕ) → Sound v → kindOf (v .round) ≡ k → bitIn k (some (frameOf v)) ≡ v .said
+bit-sent v k h kind =
+    let c = frameOf v in
+    let said : says k (v .said) (some c) ≡ true = frame-says v h k (v .said) ∙ rw (eq-eqb _ _ kind, eq-eqb (v .said) (v .said) refl) refl in
+    let parts = and-eq-true-iff (eqb (kindSaid (c .said)) k) (eqb (bitSaid (c .said)) (v .said)) .0 said in
+    ap (λ t. cond t (bitSaid (c .said)) 2) (parts .0) ∙ eqb-true _ _ (parts .1)
+
+count-same : (f g : ℕ → Bool) → ((x : ℕ) → f x ≡ g x) → (l : List ℕ) → countIf f l ≡ countIf g l
+count-same f g same [] = refl
+count-same f g same (x ∷ l) = rw (same x, count-same f g same l) refl
+
+module _ (v : View) (es : List Entry) where
+  -- how many of those heard have a frame of kind k with bit b
+  abbrev bitCount : ℕ → ℕ → ℕ
+  bitCount k b = countIf (λ s. eqb (bitIn k (received v es s)) b) (heardAfter v es)
+
+  count-says : (k b : ℕ) → b < 2 → count (says k b) v es ≡ bitCount k b
+  count-says k b h = count-same _ _ (λ s. says-bit k b (received v es s) h) (heardAfter v es)
+
+  value-two-thirds-is : (b : ℕ) → b < 2 → (valueTwoThirds v es b ≡ true) ↔ TwoThirds (bitCount 3 b) (length (heardAfter v es))
+  unfolding valueTwoThirds
+  value-two-thirds-is b h = rw (count-says 3 b h) (two-thirds-is _ _)
+
+  proposal-third-is : (b : ℕ) → b < 2 → (proposalThird v es b ≡ true) ↔ Third (bitCount 4 b) (length (heardAfter v es))
+  unfolding proposalThird
+  proposal-third-is b h = rw (count-says 4 b h) (third-is _ _)
+
+  proposal-two-thirds-is : (b : ℕ) → b < 2 → (proposalTwoThirds v es b ≡ true) ↔ TwoThirds (bitCount 4 b) (length (heardAfter v es))
+  unfolding proposalTwoThirds
+  proposal-two-thirds-is b h = rw (count-says 4 b h) (two-thirds-is _ _)
+
+  -- making round 4 + 3r: the bit proposed is the one whose values reach two thirds
+  proposal-is : (b : ℕ) → b < 2 → (valueTwoThirds v es 0 ≡ true → valueTwoThirds v es 1 ≡ true → ⊥) → (proposal v es ≡ b) ↔ (valueTwoThirds v es b ≡ true)
+  unfolding proposal
+  proposal-is zero h apart = pick (valueTwoThirds v es 0) (valueTwoThirds v es 1)
+    where
+      pick : (x y : Bool) → (_≡_ {A = ℕ} (cond x 0 (cond y 1 2)) 0) ↔ (x ≡ true)
+      pick true y = (λ e. refl, λ t. refl)
+      pick false true = (λ e. absurd (omega arith), λ t. absurd (true≢false (sym t)))
+      pick false false = (λ e. absurd (omega arith), λ t. absurd (true≢false (sym t)))
+  proposal-is (suc zero) h apart = pick (valueTwoThirds v es 0) (valueTwoThirds v es 1) apart
+    where
+      pick : (x y : Bool) → (x ≡ true → y ≡ true → ⊥) → (_≡_ {A = ℕ} (cond x 0 (cond y 1 2)) 1) ↔ (y ≡ true)
+      pick true y apart = (λ e. absurd (omega arith), λ t. absurd (apart refl t))
+      pick false true apart = (λ e. refl, λ t. refl)
+      pick false false apart = (λ e. absurd (omega arith), λ t. absurd (true≢false (sym t)))
+  proposal-is (suc (suc b)) h apart = absurd (omega arith)
+
+  -- making round 5 + 3r
+  bit-adopted : (b c : ℕ) → undecided v ≡ true → b + c ≡ 1 → proposalThird v es b ≡ true → proposalThird v es c ≡ false → bitAdopted v es ≡ b
+  unfolding bitAdopted
+  bit-adopted zero zero u e t f = absurd (omega arith)
+  bit-adopted zero (suc zero) u e t f = rw (u, t, f) refl
+  bit-adopted (suc zero) zero u e t f = rw (u, t, f) refl
+  bit-adopted zero (suc (suc c)) u e t f = absurd (omega arith)
+  bit-adopted (suc zero) (suc c) u e t f = absurd (omega arith)
+  bit-adopted (suc (suc b)) c u e t f = absurd (omega arith)
+
+  bit-kept : proposalThird v es 0 ≡ proposalThird v es 1 → bitAdopted v es ≡ v .bit
+  unfolding bitAdopted
+  bit-kept e = rw e (pick (undecided v) (proposalThird v es 1))
+    where
+      pick : (u t : Bool) → cond (u && t && not t) 0 (cond (u && t && not t) 1 (v .bit)) ≡ v .bit
+      pick false t = refl
+      pick true true = refl
+      pick true false = refl
+
+  bit-fixed : undecided v ≡ false → bitAdopted v es ≡ v .bit
+  unfolding bitAdopted
+  bit-fixed u = rw u refl
+
+  strong-is : (eqb (strongAfter v es) 1 ≡ true) ↔ (proposalTwoThirds v es (bitAdopted v es) ≡ true)
+  unfolding strongAfter
+  strong-is = pick (proposalTwoThirds v es (bitAdopted v es))
+    where
+      pick : (t : Bool) → (eqb (cond t 1 0) 1 ≡ true) ↔ (t ≡ true)
+      pick true = (λ e. refl, λ e. refl)
+      pick false = (λ e. e, λ e. e)
+
+  opinion-own : undecided v ≡ true → v .king ≡ v .own → opinion v es ≡ bitAdopted v es
+  unfolding opinion
+  opinion-own u e = rw (u, eq-eqb _ _ e) refl
+
+  -- (a) of making round 3 + 3r
+  bit-taken : 0 < phase v → undecided v ≡ true → v .strong ≡ 0 → kingOpinion v es ≤ 1 → bitTaken v es ≡ kingOpinion v es
+  unfolding bitTaken
+  bit-taken later u weak bit = rw (lt-ltb _ _ later, u, eq-eqb _ _ weak, le-leb _ _ bit) refl
+
+  bit-retained : (0 < phase v → undecided v ≡ true → v .strong ≡ 0 → kingOpinion v es ≤ 1 → ⊥) → bitTaken v es ≡ v .bit
+  unfolding bitTaken
+  bit-retained n = cond-holds (λ b. b ≡ v .bit) (ltb 0 (phase v) && undecided v && eqb (v .strong) 0 && leb (kingOpinion v es) 1)
+      (λ t.
+      let (t₃, bit) = and-eq-true-iff (ltb 0 (phase v) && undecided v && eqb (v .strong) 0) (leb (kingOpinion v es) 1) .0 t in
+      let (t₂, weak) = and-eq-true-iff (ltb 0 (phase v) && undecided v) (eqb (v .strong) 0) .0 t₃ in
+      let (later, u) = and-eq-true-iff (ltb 0 (phase v)) (undecided v) .0 t₂ in
+      absurd (n (ltb-true _ _ later) u (eqb-true _ _ weak) (leb-true _ _ bit)))
+      (λ t. refl)
+
+  -- (c) of making round 3 + 3r
+  decision-taken : decides v es ≡ true → decisionAfter v es ≡ bitTaken v es
+  unfolding decisionAfter
+  decision-taken d = rw d refl
+
+  decision-kept : undecided v ≡ false → decisionAfter v es ≡ v .decision
+  unfolding decisionAfter decides
+  decision-kept u = rw u refl
+
+-- ---- the bit instance
+
+module _ (S : Steps) where
+  open Steps S using (correct, faulty, input, state, tray)
+
+  abbrev pub bits : BitInstance
+  bits = record {
+    valueFrom = λ p r s. bitIn 3 (hadFrom S p (valueRound r) s);
+    proposalFrom = λ p r s. bitIn 4 (hadFrom S p (proposeRound r) s);
+    opinionFrom = λ p r s. opinionIn (hadFrom S p (turnRound (suc r)) s);
+    value = λ p r. (before S p (suc r)) .bit;
+    proposal = λ p r. (state p (proposeRound r)) .said;
+    opinion = λ p r. (state p (turnRound (suc r))) .said;
+    own = λ p r. (state p (turnRound (suc r))) .bit;
+    strong = λ p r. eqb ((state p (turnRound (suc r))) .strong) 1;
+    decision = λ p r. (before S p r) .decision;
+  }
+
+  module _ (K : StepRules S) where
+    open StepRules K using (differ, begins, a-bit, sound)
+
+    -- from a correct one p has the bit that it said
+    bit-received : {p s t : ℕ} (k : ℕ) → In p correct → In s correct → Timely S t → kindOf t ≡ k
+        → bitIn k (hadFrom S p t s) ≡ (state s t) .said
+    bit-received {p} {s} {t} k i j h kind =
+        ap (bitIn k) (received-sent S K i j h) ∙ bit-sent (state s t) k (sound s t j h) (ap kindOf (state-round S K j t h) ∙ kind)
+
+    module _ {p s r : ℕ} (i : In p correct) (j : In s correct) (h : suc r ≤ length (all S)) where
+      value-received : bits .valueFrom p r s ≡ bits .value s r
+      value-received =
+          let t = timely-value S h in
+          bit-received 3 i j t (kind-value r) ∙ sound s _ j t .said-value (ap kindOf (state-round S K j _ t) ∙ kind-value r)
+
+      proposal-received : bits .proposalFrom p r s ≡ bits .proposal s r
+      proposal-received = bit-received 4 i j (timely-propose S h) (kind-propose r)
+
+      opinion-received : bits .opinionFrom p r s ≡ bits .opinion s r
+      opinion-received = opinion-bit (hadFrom S p (turnRound (suc r)) s) ∙ bit-received 5 i j (timely-turn S h) (kind-turn r)
+
+    -- ---- (a) and (c) of making round 3 + 3r
+
+    module _ {p r : ℕ} (i : In p correct) (h : r ≤ length (all S)) where
+      abbrev v : View
+      v = state p (turnRound r)
+
+      abbrev es : List Entry
+      es = tray p (turnRound r)
+
+      value-made : (before S p (suc r)) .bit ≡ bitTaken v es
+      value-made = ap (λ w. w .bit) (step-value S K i h)
+
+      decision-made : (before S p (suc r)) .decision ≡ decisionAfter v es
+      decision-made = ap (λ w. w .decision) (step-value S K i h)
+
+      decision-own-here : undecided (before S p r) ≡ true → undecided (before S p (suc r)) ≡ false → (before S p (suc r)) .decision ≡ (before S p (suc r)) .bit
+      decision-own-here u d =
+          let now : not (decides v es) ≡ false = rw (undecided-before S K i r h, u) at (sym (undecided-after S K i h) ∙ d) in
+          decision-made ∙ decision-taken v es (not-false _ now) ∙ sym value-made
+
+      decision-held-here : undecided (before S p r) ≡ false → (before S p (suc r)) .decision ≡ (before S p r) .decision
+      decision-held-here d =
+          decision-made
+          ∙ decision-kept v es (undecided-before S K i r h ∙ d)
+          ∙ before-same S K i (λ w. w .decision) (λ w es. refl) (λ w es. refl) r h
+
+    -- ---- making rounds 4 + 3r and 5 + 3r, and (a) of making the next
+
+    module _ {p r : ℕ} (i : In p correct) (h : suc r ≤ length (all S)) where
+      abbrev valued : View
+      valued = state p (valueRound r)
+
+      abbrev valueTray : List Entry
+      valueTray = tray p (valueRound r)
+
+      abbrev proposed : View
+      proposed = state p (proposeRound r)
+
+      abbrev proposeTray : List Entry
+      proposeTray = tray p (proposeRound r)
+
+      abbrev turned : View
+      turned = state p (turnRound (suc r))
+
+      abbrev turnTray : List Entry
+      turnTray = tray p (turnRound (suc r))
+
+      good : Sound turned
+      good = sound p (turnRound (suc r)) i (timely-turn S h)
+
+      -- ---- what is proposed
+
+      value-counted : {b : ℕ} → b < 2 → (valueTwoThirds valued valueTray b ≡ true) ↔ ValueTwoThirds (rotation S) bits p r b
+      value-counted bit = value-two-thirds-is valued valueTray _ bit
+
+      values-apart : valueTwoThirds valued valueTray 0 ≡ true → valueTwoThirds valued valueTray 1 ≡ true → ⊥
+      values-apart x y =
+          let heard = heard-in-round S K i (timely-value S h) in
+          two-thirds-apart differ (few-faulty S K) (values (rotation S) bits p r 0) (values (rotation S) bits p r 1) heard heard
+          (λ s j t. ne-eqb (bits .valueFrom p r s) 1 (λ e. absurd (omega (arith, eqb-true (bits .valueFrom p r s) 0 t))))
+          (value-counted (omega arith) .0 x)
+          (value-counted (omega arith) .0 y)
+
+      proposed-here : {b : ℕ} → b < 2 → (proposed .said ≡ b) ↔ ValueTwoThirds (rotation S) bits p r b
+      proposed-here {b} bit =
+          let made : proposed .said ≡ proposal valued valueTray = ap (λ w. w .said) (step-propose S K i h) in
+          let law = proposal-is valued valueTray b bit values-apart in
+          (λ e. value-counted bit .0 (law .0 (sym made ∙ e)), λ t. made ∙ law .1 (value-counted bit .1 t))
+
+      -- ---- the own bit, strong, the opinion
+
+      undecided-proposed : undecided proposed ≡ undecided (before S p (suc r))
+      undecided-proposed = ap (λ w. undecided w) (step-propose S K i h)
+
+      third-counted : {b : ℕ} → b < 2 → (proposalThird proposed proposeTray b ≡ true) ↔ ProposalThird (rotation S) bits p r b
+      third-counted bit = proposal-third-is proposed proposeTray _ bit
+
+      own-made : turned .bit ≡ bitAdopted proposed proposeTray
+      own-made = ap (λ w. w .bit) (step-turn S K i h)
+
+      value-kept : proposed .bit ≡ (before S p (suc r)) .bit
+      value-kept = ap (λ w. w .bit) (step-propose S K i h)
+
+      adopted-here : (b c : ℕ) → undecided (before S p (suc r)) ≡ true → b + c ≡ 1 → ProposalThird (rotation S) bits p r b
+          → (¬ ProposalThird (rotation S) bits p r c) → turned .bit ≡ b
+      adopted-here b c u e third other =
+          own-made
+          ∙ bit-adopted proposed proposeTray b c (undecided-proposed ∙ u) e (third-counted (omega arith) .1 third) (iff-false _ (third-counted (omega arith)) other)
+
+      kept-here : (ProposalThird (rotation S) bits p r 0 ↔ ProposalThird (rotation S) bits p r 1) → turned .bit ≡ (before S p (suc r)) .bit
+      kept-here law =
+          let zero-is = third-counted {b = 0} (omega arith) in
+          let one-is = third-counted {b = 1} (omega arith) in
+          own-made
+          ∙ bit-kept proposed proposeTray (iff-same _ _ (λ t. one-is .1 (law .0 (zero-is .0 t)), λ t. zero-is .1 (law .1 (one-is .0 t))))
+          ∙ value-kept
+
+      fixed-here : undecided (before S p (suc r)) ≡ false → turned .bit ≡ (before S p (suc r)) .bit
+      fixed-here d = own-made ∙ bit-fixed proposed proposeTray (undecided-proposed ∙ d) ∙ value-kept
+
+      strengthened-here : (eqb (turned .strong) 1 ≡ true) ↔ ProposalTwoThirds (rotation S) bits p r (turned .bit)
+      strengthened-here =
+          let made : turned .strong ≡ strongAfter proposed proposeTray = ap (λ w. w .strong) (step-turn S K i h) in
+          let law = strong-is proposed proposeTray in
+          let counted = proposal-two-thirds-is proposed proposeTray (turned .bit) (omega (arith, good .bit)) in
+          let same = ap (proposalTwoThirds proposed proposeTray) own-made in (
+            λ t. counted .0 (same ∙ law .0 (ap (λ b. eqb b 1) (sym made) ∙ t)),
+            λ c. ap (λ b. eqb b 1) made ∙ law .1 (sym same ∙ counted .1 c),
+          )
+
+      opined-here : undecided (before S p (suc r)) ≡ true → (before S p (suc r)) .king ≡ p → turned .said ≡ turned .bit
+      opined-here u king =
+          let made : turned .said ≡ opinion proposed proposeTray = ap (λ w. w .said) (step-turn S K i h) in
+          let named : proposed .king ≡ p = ap (λ w. w .king) (step-propose S K i h) ∙ king in
+          made ∙ opinion-own proposed proposeTray (undecided-proposed ∙ u) (named ∙ sym (state-own S K i _ (timely-propose S h))) ∙ sym own-made
+
+      -- ---- the next value
+
+      undecided-turned : undecided turned ≡ undecided (before S p (suc r))
+      undecided-turned = undecided-before S K i (suc r) h
+
+      opinion-had : kingOpinion turned turnTray ≡ bits .opinionFrom p r ((before S p (suc r)) .king)
+      opinion-had = ap (bits .opinionFrom p r) (before-same S K i (λ w. w .king) (λ w es. refl) (λ w es. refl) (suc r) h)
+
+      taken-here : undecided (before S p (suc r)) ≡ true → eqb (turned .strong) 1 ≡ false → bits .opinionFrom p r ((before S p (suc r)) .king) < 2
+          → (before S p (suc (suc r))) .bit ≡ bits .opinionFrom p r ((before S p (suc r)) .king)
+      taken-here u t bit =
+          let weak : turned .strong ≡ 0 = omega (arith, eqb-false (turned .strong) 1 t, good .strong) in
+          value-made i h
+          ∙ bit-taken turned turnTray (omega (arith, phase-here S K i h)) (undecided-turned ∙ u) weak (omega (arith, opinion-had))
+          ∙ opinion-had
+
+      retained-here : (undecided (before S p (suc r)) ≡ false) ⊎ (eqb (turned .strong) 1 ≡ true) ⊎ (2 ≤ bits .opinionFrom p r ((before S p (suc r)) .king))
+          → (before S p (suc (suc r))) .bit ≡ turned .bit
+      retained-here c = value-made i h ∙ bit-retained turned turnTray (λ later u weak bit. elim c [
+        | inl d ↦ true≢false (sym u ∙ undecided-turned ∙ d)
+        | inr (inl t) ↦ absurd (omega (arith, eqb-true (turned .strong) 1 t))
+        | inr (inr two) ↦ absurd (omega (arith, opinion-had))
+      ])
+
+    pub first-value : {p : ℕ} → In p correct → (before S p 1) .bit ≡ input p
+    first-value {p} i =
+        value-made i zero-le
+        ∙ bit-retained (state p 2) _ (λ later u weak bit. absurd (omega (arith, phase-here S K i {r = 0} zero-le)))
+        ∙ ap (λ v. v .bit) (step-roster S K i)
+        ∙ ap (λ v. v .bit) (begins p i)
+
+    pub bit-rules : BitRules (rotation S) bits
+    bit-rules = record {
+      value-of = λ u j t. value-received (u .observes) j (u .timely);
+      value-own = λ u j t. absurd (true≢false t);
+      proposal-of = λ u j t. proposal-received (u .observes) j (u .timely);
+      proposal-own = λ u j t. absurd (true≢false t);
+      opinion-of = λ u j t. opinion-received (u .observes) j (u .timely);
+      brought = λ {p} i. omega (arith, first-value i, a-bit p i);
+      proposed = λ u. proposed-here (u .observes) (u .timely);
+      adopted = λ b c u d. adopted-here (u .observes) (u .timely) b c (not-false _ d);
+      kept = λ u d. kept-here (u .observes) (u .timely);
+      fixed = λ u d. fixed-here (u .observes) (u .timely) (not-true _ d);
+      strengthened = λ u. strengthened-here (u .observes) (u .timely);
+      opined = λ u j d. opined-here (u .observes) (u .timely) (not-false _ d);
+      taken = λ u d. taken-here (u .observes) (u .timely) (not-false _ d);
+      retained = λ u c. retained-here (u .observes) (u .timely) (elim c [ inl d ↦ inl (not-true _ d) | inr e ↦ inr e ]);
+      decision-own = λ u d e. decision-own-here (u .observes) (u .timely) (not-false _ d) (not-true _ e);
+      decision-held = λ i h d. decision-held-here i h (not-true _ d);
+    }

@@ -1,0 +1,290 @@
+-- Steps of the published rules are a coordinator rotation.
+-- Serves document 01's "The run of demand 3".
+--     turnRound r          round 2 + 3r, whose frames are rosters or turns; valueRound r and proposeRound r, the two after it
+--     before S p r         p's state of the last value round, or of round 2: the one whose lists and decision p enters phase r with
+--     hadFrom S p t s      the frame that p has from s in its tray of round t
+--     rotation S           the rotation; everybody works always, so the rules on quiet ones say nothing
+--     rotation-rules S K   it keeps the rules of a rotation
+use Prim.Native.Nat.{ℕ, zero, suc, _+_, _*_, _%_, _≤_}
+use mathlib.Core.Bool.{Bool, true, false, not, cond, _&&_, true≢false, and-true, and-false, and-eq-true-iff}
+use mathlib.Core.List.{List, []}
+use mathlib.Core.Logic.{_⊎_, inl, inr, _↔_}
+use mathlib.Core.Option.{Option, some}
+use mathlib.Core.Path.{_≡_, refl, sym, ap, _∙_, subst}
+use native.Mathlib.Omega.{arith}
+use borrow.Author.Tests.{leb-true, le-leb, ne-eqb, not-true, not-false}
+use lib.Dec.{eqb, leb, ltb}
+use lib.ListN.{length, getD}
+use Rattle.wire.specs.Frame.{Content, kindOf, maxCount}
+use Rattle.wire.specs.Tray.{Entry}
+use Rattle.controller.specs.Lists.{In, Rising}
+use Rattle.controller.specs.Thirds.{third, twoThirds}
+use Rattle.controller.specs.State.{View, undecided}
+use Rattle.controller.specs.Received.{frameOf, heardAfter, received, says, listIn}
+use Rattle.controller.specs.Rotation.{phase, tally, echoed, candidatesAfter, decides, kingAfter}
+use Rattle.controller.specs.Bit.{kingOpinion, bitTaken, decisionAfter}
+use Rattle.controller.specs.Rules.{makeRoster, makeValue, makePropose, makeTurn}
+use Rattle.controller.specs.Laws.Lists.{true-or-false}
+use Rattle.controller.specs.Laws.State.{Sound}
+use Rattle.controller.specs.Laws.Thirds.{third-is, two-thirds-is}
+use Rattle.controller.specs.Laws.Received.{frame-says, frame-list}
+use Rattle.controller.specs.Laws.Rotation.{roster-in, echoed-in, candidates-in, candidates-rising}
+use Rattle.controller.specs.Laws.Rules.{next-roster, next-value, next-propose, next-turn, phase-is}
+use Rattle.run.specs.Counting.{Heard}
+use Rattle.run.specs.Rotation.{Rotation, RotationRules, ListThird, ListTwoThirds}
+use Rattle.run.specs.Steps.{Steps, all, Timely, StepRules}
+use Rattle.run.specs.StepsLaws.{heard-positive, few-faulty, state-round, heard-reception, received-correct}
+
+-- ---- rounds
+
+-- by threes, so that the rounds of a phase compute
+abbrev pub turnRound : ℕ → ℕ
+turnRound zero = 2
+turnRound (suc r) = suc (suc (suc (turnRound r)))
+
+-- round 3 + 3r, whose frames are values
+abbrev pub valueRound : ℕ → ℕ
+valueRound r = suc (turnRound r)
+
+-- round 4 + 3r, whose frames are proposals
+abbrev pub proposeRound : ℕ → ℕ
+proposeRound r = suc (suc (turnRound r))
+
+pub turn-round-is : (r : ℕ) → turnRound r ≡ 2 + 3 * r
+turn-round-is zero = refl
+turn-round-is (suc r) = omega (arith, turn-round-is r)
+
+kind-late : (t : ℕ) → 3 ≤ t → kindOf t ≡ 3 + t % 3
+unfolding kindOf
+kind-late t h = rw (ne-eqb t 1 (λ e. absurd (omega arith)), ne-eqb t 2 (λ e. absurd (omega arith)))
+
+pub kind-value : (r : ℕ) → kindOf (valueRound r) ≡ 3
+kind-value r = let e = turn-round-is r in kind-late (valueRound r) (omega arith) ∙ omega arith
+
+pub kind-propose : (r : ℕ) → kindOf (proposeRound r) ≡ 4
+kind-propose r = let e = turn-round-is r in kind-late (proposeRound r) (omega arith) ∙ omega arith
+
+pub kind-turn : (r : ℕ) → kindOf (turnRound (suc r)) ≡ 5
+kind-turn r = let e = turn-round-is r in kind-late (turnRound (suc r)) (omega arith) ∙ omega arith
+
+-- a list is sent in the rounds 2 + 3r
+list-sent : (r : ℕ) → ltb 0 (maxCount (kindOf (turnRound r))) ≡ true
+unfolding kindOf maxCount
+list-sent zero = refl
+list-sent (suc r) = rw (kind-turn r)
+
+-- ---- any state, any entries: making round 3 + 3r
+
+pub cond-holds : {A : Type 0} (P : A → Type 0) (b : Bool) {x y : A} → (b ≡ true → P x) → (b ≡ false → P y) → P (cond b x y)
+cond-holds P true passed failed = passed refl
+cond-holds P false passed failed = failed refl
+
+module _ (v : View) (es : List Entry) where
+  bit-taken-bit : v .bit ≤ 1 → bitTaken v es ≤ 1
+  unfolding bitTaken
+  bit-taken-bit h = cond-holds (λ b. b ≤ 1) (ltb 0 (phase v) && undecided v && eqb (v .strong) 0 && leb (kingOpinion v es) 1)
+      (λ t. leb-true _ _ (and-eq-true-iff (ltb 0 (phase v) && undecided v && eqb (v .strong) 0) (leb (kingOpinion v es) 1) .0 t .1))
+      (λ t. h)
+
+  undecided-value : v .bit ≤ 1 → undecided (makeValue v es) ≡ (undecided v && not (decides v es))
+  unfolding decisionAfter
+  undecided-value h = elim (true-or-false (decides v es)) [
+    | inl d ↦ rw d (ne-eqb (bitTaken v es) 2 (λ e. absurd (omega (arith, bit-taken-bit h))) ∙ sym (and-false (undecided v)))
+    | inr d ↦ rw d (sym (and-true (undecided v)))
+  ]
+
+-- ---- the rotation
+
+module _ (S : Steps) where
+  open Steps S using (correct, faulty, state, tray)
+
+  abbrev pub before : ℕ → ℕ → View
+  before p zero = state p (turnRound 0)
+  before p (suc r) = state p (valueRound r)
+
+  -- whom p has heard with its tray of round t
+  abbrev heardIn : ℕ → ℕ → List ℕ
+  heardIn p t = heardAfter (state p t) (tray p t)
+
+  -- what p has from s in that tray
+  abbrev pub hadFrom : ℕ → ℕ → ℕ → Option Content
+  hadFrom p t s = received (state p t) (tray p t) s
+
+  abbrev pub rotation : Rotation
+  rotation = record {
+    correct = correct;
+    faulty = faulty;
+    observers = correct;
+    live = λ p r. true;
+    decided = λ p r. not (undecided (before p r));
+    heardTurn = λ p r. heardIn p (turnRound r);
+    heardValue = λ p r. heardIn p (valueRound r);
+    heardPropose = λ p r. heardIn p (proposeRound r);
+    listFrom = λ p r s. listIn (hadFrom p (turnRound r) s);
+    echoes = λ p r. (before p r) .echoes;
+    candidates = λ p r. (before p r) .candidates;
+    king = λ p r. (before p (suc r)) .king;
+  }
+
+  -- ---- rounds of a phase keep the guarantee
+
+  timely-first : Timely S 1
+  timely-first = record { first = omega arith; last = omega arith }
+
+  module _ {r : ℕ} where
+    pub timely-turn : r ≤ length (all S) → Timely S (turnRound r)
+    timely-turn h = let e = turn-round-is r in record { first = omega arith; last = omega arith }
+
+    pub timely-value : suc r ≤ length (all S) → Timely S (valueRound r)
+    timely-value h = let e = turn-round-is r in record { first = omega arith; last = omega arith }
+
+    pub timely-propose : suc r ≤ length (all S) → Timely S (proposeRound r)
+    timely-propose h = let e = turn-round-is r in record { first = omega arith; last = omega arith }
+
+  -- ---- the steps of a phase
+
+  module _ (K : StepRules S) where
+    open StepRules K using (differ, begins, sound, follows)
+
+    module _ {p : ℕ} (i : In p correct) where
+      pub step-roster : state p (turnRound 0) ≡ makeRoster (state p 1) (tray p 1)
+      step-roster = follows p 1 i timely-first ∙ next-roster _ _ (state-round S K i 1 timely-first)
+
+      module _ {r : ℕ} where
+        pub step-value : r ≤ length (all S) → state p (valueRound r) ≡ makeValue (state p (turnRound r)) (tray p (turnRound r))
+        step-value h = let t = timely-turn h in follows p _ i t ∙ next-value _ _ r (state-round S K i _ t ∙ turn-round-is r)
+
+        pub step-propose : suc r ≤ length (all S) → state p (proposeRound r) ≡ makePropose (state p (valueRound r)) (tray p (valueRound r))
+        step-propose h = let t = timely-value h in follows p _ i t ∙ next-propose _ _ r (state-round S K i _ t ∙ omega (arith, turn-round-is r))
+
+        pub step-turn : suc r ≤ length (all S) → state p (turnRound (suc r)) ≡ makeTurn (state p (proposeRound r)) (tray p (proposeRound r))
+        step-turn h = let t = timely-propose h in follows p _ i t ∙ next-turn _ _ r (state-round S K i _ t ∙ omega (arith, turn-round-is r))
+
+      -- what making rounds 4 + 3r and 5 + 3r leaves as it is
+      pub before-same : {A : Type 0} (f : View → A)
+          → ((v : View) (es : List Entry) → f (makePropose v es) ≡ f v) → ((v : View) (es : List Entry) → f (makeTurn v es) ≡ f v)
+          → (r : ℕ) → r ≤ length (all S) → f (state p (turnRound r)) ≡ f (before p r)
+      before-same f propose turn zero h = refl
+      before-same f propose turn (suc r) h = ap f (step-turn h) ∙ turn _ _ ∙ ap f (step-propose h) ∙ propose _ _
+
+      pub undecided-before : (r : ℕ) → r ≤ length (all S) → undecided (state p (turnRound r)) ≡ undecided (before p r)
+      undecided-before = before-same (λ v. undecided v) (λ v es. refl) (λ v es. refl)
+
+      candidates-before : (r : ℕ) → r ≤ length (all S) → (state p (turnRound r)) .candidates ≡ (before p r) .candidates
+      candidates-before = before-same (λ v. v .candidates) (λ v es. refl) (λ v es. refl)
+
+      pub heard-in-round : {t : ℕ} → Timely S t → Heard correct faulty (heardIn p t)
+      heard-in-round {t} h = heard-reception S K i h (K .received p t i h)
+
+      -- from a correct one p has the frame that it sent
+      pub received-sent : {s t : ℕ} → In s correct → Timely S t → hadFrom p t s ≡ some (frameOf (state s t))
+      received-sent {s} {t} j h = received-correct S K i j h (K .received p t i h)
+
+      -- ---- the first round and the second
+
+      start-roster : {k : ℕ} → In k (before p 0 .echoes) ↔ (In k (heardIn p 1) × (says 1 2 (hadFrom p 1 k) ≡ true))
+      start-roster = rw step-roster (roster-in (state p 1) (tray p 1))
+
+      -- every correct one sends init
+      start-says : {k : ℕ} → In k correct → says 1 2 (hadFrom p 1 k) ≡ true
+      unfolding kindOf
+      start-says {k} j = rw (received-sent j timely-first, frame-says (state k 1) (sound k 1 j timely-first) 1 2, begins k j) refl
+
+      -- ---- making round 3 + 3r
+
+      module _ {r : ℕ} (h : r ≤ length (all S)) where
+        abbrev v : View
+        v = state p (turnRound r)
+
+        abbrev es : List Entry
+        es = tray p (turnRound r)
+
+        good : Sound v
+        good = sound p (turnRound r) i (timely-turn h)
+
+        pub undecided-after : undecided (before p (suc r)) ≡ (undecided v && not (decides v es))
+        undecided-after = ap (λ w. undecided w) (step-value h) ∙ undecided-value v es (good .bit)
+
+        pub phase-here : phase v ≡ r
+        phase-here = phase-is v r (state-round S K i _ (timely-turn h) ∙ turn-round-is r)
+
+        third-here : (x : ℕ) → (third (tally v es x) (length (heardAfter v es)) ≡ true) ↔ ListThird rotation p r x
+        unfolding tally
+        third-here x = third-is _ _
+
+        two-thirds-here : (x : ℕ) → (twoThirds (tally v es x) (length (heardAfter v es)) ≡ true) ↔ ListTwoThirds rotation p r x
+        unfolding tally
+        two-thirds-here x = two-thirds-is _ _
+
+        echo-here : {x : ℕ} → In x ((before p (suc r)) .echoes) ↔ ((¬ In x ((before p r) .candidates)) × ListThird rotation p r x)
+        echo-here {x} =
+            let made : (before p (suc r)) .echoes ≡ echoed v es = ap (λ w. w .echoes) (step-value h) in
+            let old = candidates-before r h in
+            let law = echoed-in {x = x} v es (heard-positive v es good) in (
+              λ j. let (reach, new) = law .0 (subst (In x) made j) in (λ c. new (subst (In x) (sym old) c), third-here x .0 reach),
+              λ (new, reach). subst (In x) (sym made) (law .1 (third-here x .1 reach, λ c. new (subst (In x) old c))),
+            )
+
+        candidate-here : {x : ℕ} → In x ((before p (suc r)) .candidates) ↔ (In x ((before p r) .candidates) ⊎ ListTwoThirds rotation p r x)
+        candidate-here {x} =
+            let made : (before p (suc r)) .candidates ≡ candidatesAfter v es = ap (λ w. w .candidates) (step-value h) in
+            let old = candidates-before r h in
+            let law = candidates-in {x = x} v es (heard-positive v es good) in (
+              λ j. elim (law .0 (subst (In x) made j)) [ inl c ↦ inl (subst (In x) old c) | inr reach ↦ inr (two-thirds-here x .0 reach) ],
+              λ j. subst (In x) (sym made) (law .1 (elim j [ inl c ↦ inl (subst (In x) (sym old) c) | inr reach ↦ inr (two-thirds-here x .1 reach) ])),
+            )
+
+        rising-here : Rising ((before p (suc r)) .candidates)
+        rising-here = rw (step-value h) (candidates-rising v es (good .candidates .rises))
+
+        stays-here : undecided (before p r) ≡ false → undecided (before p (suc r)) ≡ false
+        stays-here d = undecided-after ∙ rw (undecided-before r h, d) refl
+
+        decides-here : undecided v ≡ true → (undecided (before p (suc r)) ≡ false) ↔ (length ((before p (suc r)) .candidates) ≤ r)
+        unfolding decides
+        decides-here u =
+            let made : (before p (suc r)) .candidates ≡ candidatesAfter v es = ap (λ w. w .candidates) (step-value h) in
+            let test : undecided (before p (suc r)) ≡ not (leb (length ((before p (suc r)) .candidates)) r) = undecided-after ∙ rw (u, phase-here, made) refl in (
+              λ d. leb-true _ _ (not-false _ (sym test ∙ d)),
+              λ l. test ∙ ap not (le-leb _ _ l),
+            )
+
+        named-here : undecided (before p (suc r)) ≡ true → (before p (suc r)) .king ≡ getD ((before p (suc r)) .candidates) r 0
+        unfolding kingAfter
+        named-here u = rw (step-value h, sym undecided-after ∙ u, phase-here) refl
+
+    -- the list that p has from a correct one is the list that it sent
+    list-received : {p s r : ℕ} → In p correct → In s correct → r ≤ length (all S) → listIn (hadFrom p (turnRound r) s) ≡ (before s r) .echoes
+    list-received {p} {s} {r} i j h =
+        let w = state s (turnRound r) in
+        ap listIn (received-sent i j (timely-turn h))
+        ∙ frame-list w
+        ∙ ap (λ t. cond (ltb 0 (maxCount (kindOf t))) (w .echoes) []) (state-round S K j _ (timely-turn h))
+        ∙ ap (λ b. cond b (w .echoes) []) (list-sent r)
+        ∙ before-same j (λ v. v .echoes) (λ v es. refl) (λ v es. refl) r h
+
+    pub rotation-rules : RotationRules rotation
+    rotation-rules = record {
+      apart = differ;
+      few = few-faulty S K;
+      watch = λ p i. i;
+      fresh = λ i. ap (λ v. not (undecided v)) (step-roster i) ∙ ap (λ v. not (undecided v)) (begins _ i);
+      stays = λ i h d. ap not (stays-here i h (not-true _ d));
+      awake = λ i h d. refl;
+      earlier = λ w. refl;
+      heard-turn = λ w. heard-in-round (w .observes) (timely-turn (w .timely));
+      heard-value = λ w. heard-in-round (w .observes) (timely-value (w .timely));
+      heard-propose = λ w. heard-in-round (w .observes) (timely-propose (w .timely));
+      list-of = λ w j t. list-received (w .observes) j (w .timely);
+      list-own = λ w j t. absurd (true≢false t);
+      roster-all = λ i j. start-roster i .1 (heard-in-round i timely-first .whole _ j, start-says i j);
+      roster-only = λ i x j. heard-in-round i timely-first .within x (start-roster i .0 j .0);
+      none = λ i. ap (λ v. v .candidates) (step-roster i) ∙ ap (λ v. v .candidates) (begins _ i);
+      rising = λ w. rising-here (w .observes) (w .timely);
+      echo = λ w. echo-here (w .observes) (w .timely);
+      candidate = λ w. candidate-here (w .observes) (w .timely);
+      decides = λ w d.
+          let law = decides-here (w .observes) (w .timely) (undecided-before (w .observes) _ (w .timely) ∙ not-false _ d) in
+          (λ e. law .0 (not-true _ e), λ l. ap not (law .1 l));
+      named = λ w d. named-here (w .observes) (w .timely) (not-false _ d);
+    }
