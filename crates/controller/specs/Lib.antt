@@ -8,4 +8,5 @@ pub mod Bit
 pub mod Rules
 pub mod Refusals
 pub mod Calls
+pub mod Bytes
 pub mod Laws

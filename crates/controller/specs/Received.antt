@@ -6,7 +6,7 @@
 --     count P v es         how many of those heard have a received frame with P
 use Prim.Native.Nat.{ℕ}
 use mathlib.Core.Bool.{Bool, false, cond, _&&_}
-use mathlib.Core.List.{List, [], _∷_, map}
+use mathlib.Core.List.{List, [], map}
 use mathlib.Core.Option.{Option, some, none}
 use lib.Dec.{ltb, eqb}
 use Rattle.wire.specs.Frame.{Content, content, kindOf, kindSaid, bitSaid, saidBy, maxCount}

@@ -1,7 +1,7 @@
 -- Refusals of start and tray: document 01, "Refusals": each number in just its stated case, "a tray is tested 1 to 8; start 9 then 3".
 --     startRefusal number bit n     0, or the refusal of a start with an output buffer of n bytes
 --     trayRefusal s b n             0, or the refusal of the tray b by the state s
-use Prim.Native.Nat.{ℕ, _+_}
+use Prim.Native.Nat.{ℕ}
 use mathlib.Core.Bool.{Bool, not, _&&_}
 use mathlib.Core.List.{List, [], _∷_}
 use lib.Dec.{leb, ltb, eqb}

@@ -5,7 +5,7 @@
 --     makePropose v es     making round 4 + 3r
 --     makeTurn v es        making round 5 + 3r
 --     next v es            the step, by the kind of the frame that is made
-use Prim.Native.Nat.{ℕ, _+_}
+use Prim.Native.Nat.{_+_}
 use mathlib.Core.Bool.{cond}
 use mathlib.Core.List.{List}
 use lib.Dec.{eqb}

@@ -9,8 +9,7 @@ use native.Mathlib.Omega.{arith}
 use borrow.Author.Tests.{eqb-false}
 use lib.Dec.{leb}
 use lib.ListN.{length, length-append}
-use Rattle.wire.specs.Limits.{maxFrame}
-use Rattle.wire.specs.Tray.{Entry, entries}
+use Rattle.controller.specs.Bytes.{maxFrame, Entry, entries}
 use Rattle.controller.specs.Lists.{In}
 use Rattle.controller.specs.State.{View, view, sound}
 use Rattle.controller.specs.Received.{heardAfter}

@@ -14,7 +14,7 @@ use borrow.Author.Tests.{eqb-true, eqb-false, eq-eqb, ne-eqb}
 use lib.Dec.{eqb}
 use lib.ListN.{length, take}
 use lib.Seq.{take-append-seam}
-use Rattle.wire.specs.Tray.{entries}
+use Rattle.controller.specs.Bytes.{entries}
 use Rattle.controller.specs.State.{View, view, image, startView}
 use Rattle.controller.specs.Rules.{next}
 use Rattle.controller.specs.Calls.{Promise, sentBytes}

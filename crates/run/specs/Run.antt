@@ -11,7 +11,7 @@ use mathlib.Core.Logic.{_⊎_, _≢_}
 use mathlib.Core.Bool.{true}
 use mathlib.Core.Path.{_≡_}
 use lib.ListN.{length, take}
-use Rattle.wire.specs.Tray.{Entry, wellFormed, roundOf, entries}
+use Rattle.controller.specs.Bytes.{Entry, wellFormed, roundOf, entries}
 use Rattle.controller.specs.Lists.{In, NoRepeats}
 use Rattle.controller.specs.Received.{senders}
 use Rattle.controller.specs.Calls.{StartPromise, TrayPromise}

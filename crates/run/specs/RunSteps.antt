@@ -14,7 +14,7 @@ use native.Mathlib.Omega.{arith}
 use borrow.Author.Tests.{eqb-true, eqb-false, eq-eqb}
 use lib.Dec.{eqb}
 use lib.ListN.{length}
-use Rattle.wire.specs.Tray.{Entry, entries, firstBytes}
+use Rattle.controller.specs.Bytes.{Entry, entries, firstBytes}
 use Rattle.controller.specs.Lists.{In, NoRepeats}
 use Rattle.controller.specs.State.{View, view, startView}
 use Rattle.controller.specs.Received.{senders}

@@ -8,7 +8,7 @@ use mathlib.Core.Logic.{_≢_}
 use mathlib.Core.Option.{some}
 use mathlib.Core.Path.{_≡_}
 use lib.ListN.{length}
-use Rattle.wire.specs.Tray.{Entry, firstBytes}
+use Rattle.controller.specs.Bytes.{Entry, firstBytes}
 use Rattle.controller.specs.Lists.{In, NoRepeats}
 use Rattle.controller.specs.State.{View, startView}
 use Rattle.controller.specs.Received.{senders}

@@ -14,8 +14,7 @@ use native.Mathlib.Omega.{arith}
 use borrow.Author.Tests.{leb-true, le-leb, ltb-true, lt-ltb, eq-eqb, eqb-true, eqb-false, ne-eqb, not-true, not-false}
 use lib.Dec.{eqb, leb, ltb}
 use lib.ListN.{length}
-use Rattle.wire.specs.Frame.{Content, kindOf, kindSaid, bitSaid}
-use Rattle.wire.specs.Tray.{Entry}
+use Rattle.controller.specs.Bytes.{Content, kindOf, kindSaid, bitSaid, Entry}
 use Rattle.controller.specs.Lists.{In, countIf}
 use Rattle.controller.specs.State.{View, undecided}
 use Rattle.controller.specs.Received.{frameOf, heardAfter, received, says, opinionIn, count}

@@ -11,8 +11,7 @@ use native.Mathlib.Decide.{ℕ-discrete, decLe}
 use borrow.Author.Tests.{eqb-true}
 use lib.Dec.{eqb, ltb}
 use lib.ListN.{length, length-append}
-use Rattle.wire.specs.Frame.{kindOf, maxCount}
-use Rattle.wire.specs.Tray.{Entry, firstBytes}
+use Rattle.controller.specs.Bytes.{kindOf, maxCount, Entry, firstBytes}
 use Rattle.controller.specs.Lists.{In, Inside, Rising}
 use Rattle.controller.specs.State.{View}
 use Rattle.controller.specs.Received.{frameOf, senders, heardAfter, readIn, received, listIn}

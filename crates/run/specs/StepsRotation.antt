@@ -5,7 +5,7 @@
 --     hadFrom S p t s      the frame that p has from s in its tray of round t
 --     rotation S           the rotation; everybody works always, so the rules on quiet ones say nothing
 --     rotation-rules S K   it keeps the rules of a rotation
-use Prim.Native.Nat.{ℕ, zero, suc, _+_, _*_, _%_, _≤_}
+use Prim.Native.Nat.{ℕ, zero, suc, _+_, _*_, _≤_}
 use mathlib.Core.Bool.{Bool, true, false, not, cond, _&&_, true≢false, and-true, and-false, and-eq-true-iff}
 use mathlib.Core.List.{List, []}
 use mathlib.Core.Logic.{_⊎_, inl, inr, _↔_}
@@ -15,8 +15,7 @@ use native.Mathlib.Omega.{arith}
 use borrow.Author.Tests.{leb-true, le-leb, ne-eqb, not-true, not-false}
 use lib.Dec.{eqb, leb, ltb}
 use lib.ListN.{length, getD}
-use Rattle.wire.specs.Frame.{Content, kindOf, maxCount}
-use Rattle.wire.specs.Tray.{Entry}
+use Rattle.controller.specs.Bytes.{Content, kindOf, maxCount, Entry}
 use Rattle.controller.specs.Lists.{In, Rising}
 use Rattle.controller.specs.Thirds.{third, twoThirds}
 use Rattle.controller.specs.State.{View, undecided}
@@ -29,7 +28,7 @@ use Rattle.controller.specs.Laws.State.{Sound}
 use Rattle.controller.specs.Laws.Thirds.{third-is, two-thirds-is}
 use Rattle.controller.specs.Laws.Received.{frame-says, frame-list}
 use Rattle.controller.specs.Laws.Rotation.{roster-in, echoed-in, candidates-in, candidates-rising}
-use Rattle.controller.specs.Laws.Rules.{next-roster, next-value, next-propose, next-turn, phase-is}
+use Rattle.controller.specs.Laws.Rules.{kind-later, next-roster, next-value, next-propose, next-turn, phase-is}
 use Rattle.run.specs.Counting.{Heard}
 use Rattle.run.specs.Rotation.{Rotation, RotationRules, ListThird, ListTwoThirds}
 use Rattle.run.specs.Steps.{Steps, all, Timely, StepRules}
@@ -54,18 +53,14 @@ pub turn-round-is : (r : ℕ) → turnRound r ≡ 2 + 3 * r
 turn-round-is zero = refl
 turn-round-is (suc r) = omega (arith, turn-round-is r)
 
-kind-late : (t : ℕ) → 3 ≤ t → kindOf t ≡ 3 + t % 3
-unfolding kindOf
-kind-late t h = rw (ne-eqb t 1 (λ e. absurd (omega arith)), ne-eqb t 2 (λ e. absurd (omega arith)))
-
 pub kind-value : (r : ℕ) → kindOf (valueRound r) ≡ 3
-kind-value r = let e = turn-round-is r in kind-late (valueRound r) (omega arith) ∙ omega arith
+kind-value r = let e = turn-round-is r in kind-later (valueRound r) 0 (omega arith) (omega arith)
 
 pub kind-propose : (r : ℕ) → kindOf (proposeRound r) ≡ 4
-kind-propose r = let e = turn-round-is r in kind-late (proposeRound r) (omega arith) ∙ omega arith
+kind-propose r = let e = turn-round-is r in kind-later (proposeRound r) 1 (omega arith) (omega arith)
 
 pub kind-turn : (r : ℕ) → kindOf (turnRound (suc r)) ≡ 5
-kind-turn r = let e = turn-round-is r in kind-late (turnRound (suc r)) (omega arith) ∙ omega arith
+kind-turn r = let e = turn-round-is r in kind-later (turnRound (suc r)) 2 (omega arith) (omega arith)
 
 -- a list is sent in the rounds 2 + 3r
 list-sent : (r : ℕ) → ltb 0 (maxCount (kindOf (turnRound r))) ≡ true
