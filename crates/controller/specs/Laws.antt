@@ -1,4 +1,5 @@
 -- Laws about the definitions, for the proofs of this crate and of the crates above it.
+pub mod Examples
 pub mod Lists
 pub mod Received
 pub mod Refusals
@@ -6,3 +7,4 @@ pub mod Rotation
 pub mod Rules
 pub mod State
 pub mod Thirds
+pub mod Trials

@@ -9,4 +9,6 @@ pub mod Rules
 pub mod Refusals
 pub mod Calls
 pub mod Bytes
+pub mod Trials
+pub mod Examples
 pub mod Laws

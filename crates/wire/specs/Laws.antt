@@ -1,6 +1,5 @@
 -- Laws about the definitions, for the proofs of this crate and of the crates above it.
 pub mod Frame
 pub mod Numbers
-pub mod Trials
 pub mod Tray
 pub mod Words

@@ -1,0 +1,129 @@
+-- The two worked examples of document 01: the session that "The session printer" lists, and the last of the "Trials".
+--     row v                a line of the printer: what a call that made the state v prints
+--     listing v bs         the lines from the state v on, over the trays bs
+--     refusals v bs        what these trays are refused under, 0 for none
+--     Session              what the paper says of the session
+--     fromThree t p        what the faulty 3 sends to p in round t, as entries of p's tray; fromOthers p vs, what the others of vs send
+--     packed t es          the well packed tray of round t with the entries es
+--     trayTo v vs          the tray of the one whose state is v: what 3 sends to it, then the frames of the others of vs, byte for byte
+--     step vs              the states after each has taken its tray
+--     LateJoiner a b c     what the paper says of the trial, where 5, 7 and 9 bring in the bits a, b, c
+use Prim.Native.Nat.{ℕ, zero, suc, _+_, _*_}
+use mathlib.Core.Bool.{cond, _&&_, _||_}
+use mathlib.Core.List.{List, [], _∷_, _++_, map}
+use mathlib.Core.Path.{_≡_}
+use lib.Dec.{eqb}
+use lib.ListN.{length, replicate}
+use Rattle.wire.specs.Limits.{maxFrame, trayHeader, entryWidth}
+use Rattle.wire.specs.Words.{halfBytes, wordBytes}
+use Rattle.wire.specs.Frame.{kindSaid, bitSaid}
+use Rattle.wire.specs.Tray.{Entry, entries}
+use Rattle.controller.specs.State.{View, image, startView}
+use Rattle.controller.specs.Received.{frameOf}
+use Rattle.controller.specs.Rules.{next}
+use Rattle.controller.specs.Refusals.{startRefusal, trayRefusal}
+use Rattle.controller.specs.Calls.{sentBytes}
+
+-- ---- "Number 7, bit 1 and five empty trays of rounds 1 to 5 give"
+
+-- "the round, kind, bit and number count of the frame sent, then the sizes of heard and candidates, king, decision"
+abbrev pub row : View → List ℕ
+row v =
+    let sent = frameOf v in
+    sent .round ∷ kindSaid (sent .said) ∷ bitSaid (sent .said) ∷ length (sent .numbers)
+    ∷ length (v .heard) ∷ length (v .candidates) ∷ v .king ∷ v .decision ∷ []
+
+abbrev pub listing : View → List (List ℕ) → List (List ℕ)
+listing v [] = row v ∷ []
+listing v (b ∷ bs) = row v ∷ listing (next v (entries b)) bs
+
+abbrev pub refusals : View → List (List ℕ) → List ℕ
+refusals v [] = []
+refusals v (b ∷ bs) = trayRefusal (image v) b maxFrame ∷ refusals (next v (entries b)) bs
+
+abbrev pub emptyTrays : List (List ℕ)
+emptyTrays =
+    (0 ∷ 0 ∷ 0 ∷ 1 ∷ 0 ∷ 0 ∷ 0 ∷ 0 ∷ [])
+    ∷ (0 ∷ 0 ∷ 0 ∷ 2 ∷ 0 ∷ 0 ∷ 0 ∷ 0 ∷ [])
+    ∷ (0 ∷ 0 ∷ 0 ∷ 3 ∷ 0 ∷ 0 ∷ 0 ∷ 0 ∷ [])
+    ∷ (0 ∷ 0 ∷ 0 ∷ 4 ∷ 0 ∷ 0 ∷ 0 ∷ 0 ∷ [])
+    ∷ (0 ∷ 0 ∷ 0 ∷ 5 ∷ 0 ∷ 0 ∷ 0 ∷ 0 ∷ [])
+    ∷ []
+
+pub record Session : Type 0 where
+  pub start-accepted : startRefusal 7 1 maxFrame ≡ 0
+  pub trays-accepted : refusals (startView 7 1) emptyTrays ≡ replicate 5 0
+  pub printed :
+      listing (startView 7 1) emptyTrays
+      ≡ (1 ∷ 1 ∷ 2 ∷ 0 ∷ 1 ∷ 0 ∷ 0 ∷ 2 ∷ [])
+      ∷ (2 ∷ 2 ∷ 2 ∷ 1 ∷ 1 ∷ 0 ∷ 0 ∷ 2 ∷ [])
+      ∷ (3 ∷ 3 ∷ 1 ∷ 0 ∷ 1 ∷ 1 ∷ 7 ∷ 2 ∷ [])
+      ∷ (4 ∷ 4 ∷ 1 ∷ 0 ∷ 1 ∷ 1 ∷ 7 ∷ 2 ∷ [])
+      ∷ (5 ∷ 5 ∷ 1 ∷ 1 ∷ 1 ∷ 1 ∷ 7 ∷ 2 ∷ [])
+      ∷ (6 ∷ 3 ∷ 1 ∷ 0 ∷ 1 ∷ 1 ∷ 0 ∷ 1 ∷ [])
+      ∷ []
+
+-- ---- "Proper 5, 7, 9 and faulty 3"
+
+-- "It sends init to 5 and 7 only, then a roster that lists just 3, sent to 9 alone"; for "causes no later change" it is silent from round 3 on
+abbrev pub fromThree : ℕ → ℕ → List Entry
+fromThree t p =
+    cond (eqb t 1 && (eqb p 5 || eqb p 7)) (record { sender = 3; bytes = 0 ∷ 0 ∷ 0 ∷ 1 ∷ 1 ∷ 2 ∷ 0 ∷ 0 ∷ [] } ∷ [])
+    (cond (eqb t 2 && eqb p 9) (record { sender = 3; bytes = 0 ∷ 0 ∷ 0 ∷ 2 ∷ 2 ∷ 2 ∷ 0 ∷ 1 ∷ 0 ∷ 0 ∷ 0 ∷ 3 ∷ [] } ∷ [])
+    [])
+
+abbrev pub fromOthers : ℕ → List View → List Entry
+fromOthers p [] = []
+fromOthers p (v ∷ vs) = cond (eqb (v .own) p) (fromOthers p vs) (record { sender = v .own; bytes = sentBytes v } ∷ fromOthers p vs)
+
+-- the directory of the entries, the first of whose frames begins at `at`, and their frames
+abbrev pub directory : ℕ → List Entry → List ℕ
+directory at [] = []
+directory at (e ∷ es) = wordBytes (e .sender) ++ halfBytes at ++ halfBytes (length (e .bytes)) ++ directory (at + length (e .bytes)) es
+
+abbrev pub frames : List Entry → List ℕ
+frames [] = []
+frames (e ∷ es) = e .bytes ++ frames es
+
+abbrev pub packed : ℕ → List Entry → List ℕ
+packed t es = wordBytes t ++ halfBytes (length es) ++ halfBytes 0 ++ directory (trayHeader + entryWidth * length es) es ++ frames es
+
+abbrev pub trayTo : View → List View → List ℕ
+trayTo v vs = packed (v .round) (fromThree (v .round) (v .own) ++ fromOthers (v .own) vs)
+
+abbrev pub step : List View → List View
+step vs = map (λ (v : View). next v (entries (trayTo v vs))) vs
+
+-- the states of round 1 + n, from those of round 1
+abbrev pub after : ℕ → List View → List View
+after zero vs = vs
+after (suc n) vs = after n (step vs)
+
+-- f of the states of n rounds, one after the other
+abbrev pub inRounds : {A : Type 0} → ℕ → (List View → A) → List View → List A
+inRounds zero f vs = []
+inRounds (suc n) f vs = f vs ∷ inRounds n f (step vs)
+
+abbrev pub starts : ℕ → ℕ → ℕ → List View
+starts a b c = startView 5 a ∷ startView 7 b ∷ startView 9 c ∷ []
+
+abbrev pub trayRefusals : List View → List ℕ
+trayRefusals vs = map (λ (v : View). trayRefusal (image v) (trayTo v vs) maxFrame) vs
+
+abbrev pub decisions : List View → List ℕ
+decisions vs = map (λ (v : View). v .decision) vs
+
+abbrev pub kings : List View → List ℕ
+kings vs = map (λ (v : View). v .king) vs
+
+pub record LateJoiner (a b c : ℕ) : Type 0 where
+  -- no tray of rounds 1 to 14 is refused
+  pub accepted : inRounds 14 trayRefusals (starts a b c) ≡ replicate 14 (0 ∷ 0 ∷ 0 ∷ [])
+  -- "In phase 0, 9 names king 3; 5 and 7 name 5"
+  pub phase-0 : kings (after 2 (starts a b c)) ≡ 5 ∷ 5 ∷ 3 ∷ []
+  -- "In phase 1 all have 3, 5, 7, 9 and name 5"
+  pub phase-1-candidates : map (λ (v : View). v .candidates) (after 5 (starts a b c)) ≡ replicate 3 (3 ∷ 5 ∷ 7 ∷ 9 ∷ [])
+  pub phase-1 : kings (after 5 (starts a b c)) ≡ 5 ∷ 5 ∷ 5 ∷ []
+  -- "all decide in round 15", none in the 14 rounds before: on the bit of 5, the first king whom all three name
+  pub decided : inRounds 15 decisions (starts a b c) ≡ replicate 14 (2 ∷ 2 ∷ 2 ∷ []) ++ ((a ∷ a ∷ a ∷ []) ∷ [])
+  pub last-round : map (λ (v : View). v .round) (after 14 (starts a b c)) ≡ 15 ∷ 15 ∷ 15 ∷ []
