@@ -1,5 +1,7 @@
 -- What the run needs of bytes, passed on from the crate wire, so that it names the controller's crate alone.
 pub use Rattle.wire.specs.Frame.{Content, kindSaid, bitSaid}
-unfoldable pub use Rattle.wire.specs.Frame.{kindOf, maxCount}
+unfoldable pub use Rattle.wire.specs.Frame.{kindOf, chosenBy, saidBy, bitFits, maxCount, lengthFits, roundFits, headFits, bodyFits}
+unfoldable pub use Rattle.wire.specs.Frame.{readRefusal, content, frameBytes}
 pub use Rattle.wire.specs.Limits.{maxFrame}
-pub use Rattle.wire.specs.Tray.{Entry, wellFormed, roundOf, entries, firstBytes}
+pub use Rattle.wire.specs.Tray.{Entry, firstBytes}
+unfoldable pub use Rattle.wire.specs.Tray.{wellFormed, roundOf, entryCount, inDirectory, sender, part, entries}

@@ -19,3 +19,7 @@ pub mod Protocol
 pub mod Calls
 pub mod RunSteps
 pub mod Agreement
+-- Two runs, so that nobody need wonder whether the conditions contradict each other.
+pub mod RunTest
+pub mod Played
+pub mod Inhabited

@@ -62,7 +62,7 @@ pub record Sound (v : View) : Type 0 where
 
 -- ---- the tests that soundness is made of
 
-same-gives : (l m : List ℕ) → same l m ≡ true → l ≡ m
+pub same-gives : (l m : List ℕ) → same l m ≡ true → l ≡ m
 same-gives [] [] h = refl
 same-gives [] (y ∷ m) h = absurd (true≢false (sym h))
 same-gives (x ∷ l) [] h = absurd (true≢false (sym h))
