@@ -1,2 +1,10 @@
-// One controller's part in a run: its state and, for each call, what the call answers. Bytes are known through the crate wire alone.
+// One controller's part in a run: its state, and the two calls, start and tray. Bytes are known through the crate wire alone.
+mod bit;
+pub mod calls;
+mod lists;
+mod received;
+mod rotation;
+mod sound;
 pub mod state;
+mod step;
+mod tally;

@@ -16,7 +16,7 @@ use Rattle.controller.specs.Refusals.{startRefusal, trayRefusal}
 use Rattle.controller.specs.Calls.{Promise, sentBytes}
 use Rattle.controller.specs.declared.state.State.{State}
 use Rattle.controller.specs.declared.state.Answer.{Answer}
-use Rattle.run.specs.Run.{StartCall, TrayCall, HandedOn, Controller}
+use Rattle.run.specs.Run.{Place, StartCall, TrayCall, HandedOn, Controller}
 
 -- ---- calls
 
@@ -33,6 +33,10 @@ bufferOf n made before = cond (eqb n 0) (sentBytes made ++ drop (length (sentByt
 pub promise-kept : (n : ℕ) (made : View) (kept : State) (before : List ℕ) → Promise n made kept before (answerOf n made kept) (bufferOf n made before)
 promise-kept n made kept before = record { number = refl; state = refl; written = refl; output = refl }
 
+-- the promises do not speak of where a buffer lies
+abbrev anywhere : Place
+anywhere = record { pointer = (0, 0); name = 0 }
+
 abbrev pub startCall : (number bit : ℕ) → List ℕ → StartCall number
 startCall number bit before =
     let n = startRefusal number bit (length before) in
@@ -42,6 +46,8 @@ startCall number bit before =
       before = before;
       after = bufferOf n made before;
       answer = answerOf n made zeroState;
+      lifetimes = ([], tt);
+      out = anywhere;
       promise = promise-kept n made zeroState before;
     }
 
@@ -55,6 +61,9 @@ trayCall s b before =
       before = before;
       after = bufferOf n made before;
       answer = answerOf n made s;
+      lifetimes = ([], ([], tt));
+      source = anywhere;
+      out = anywhere;
       promise = promise-kept n made s before;
     }
 

@@ -1,5 +1,6 @@
 -- The run of demand 3: document 01, "The run of demand 3", sentence by sentence.
---     TrayCall, StartCall      a call with what went in and what came out, and that its promise holds of them
+--     Place                    where a slice lies that is lent to a call; no promise speaks of it
+--     TrayCall, StartCall      a call with what went in and what came out, and that what its contract ensures holds of them
 --     Controller               a proper controller's list of calls
 --     Sent c t b               b is the frame that c sent for round t
 --     Delivers l f p t b       the line's guarantee for a tray b of round t to the controller p, among the proper ones l and the faulty ones f
@@ -10,11 +11,14 @@ use mathlib.Core.List.{List, [], _∷_, _++_, map, List·Memᴰ}
 use mathlib.Core.Logic.{_⊎_, _≢_}
 use mathlib.Core.Bool.{true}
 use mathlib.Core.Path.{_≡_}
+use contract.Lifetimes.{Lfts}
+use denote.Ref.{RefT}
 use lib.ListN.{length, take}
 use Rattle.controller.specs.Bytes.{Entry, wellFormed, roundOf, entries}
 use Rattle.controller.specs.Lists.{In, NoRepeats}
 use Rattle.controller.specs.Received.{senders}
-use Rattle.controller.specs.Calls.{StartPromise, TrayPromise}
+use Rattle.controller.proofs.calls.start.Reads as start-contract
+use Rattle.controller.proofs.calls.tray.Reads as tray-contract
 use Rattle.controller.specs.declared.state.State.{State}
 use Rattle.controller.specs.declared.state.Answer.{Answer}
 
@@ -23,6 +27,14 @@ Member x l = List·Memᴰ x l
 
 -- ---- calls
 
+-- where a slice lies in memory, and the name under which the contract follows what is behind it
+pub record Place : Type 0 where
+  pub pointer : ℕ × ℕ
+  pub name : ℕ
+
+abbrev pub lent : Place → List ℕ → RefT (List ℕ)
+lent p l = record { ptr = p .pointer; name = p .name; now = l }
+
 pub record StartCall (number : ℕ) : Type 0 where
   -- the bit given to the start, "the one it brought in"
   pub bit : ℕ
@@ -30,7 +42,10 @@ pub record StartCall (number : ℕ) : Type 0 where
   pub before : List ℕ
   pub after : List ℕ
   pub answer : Answer
-  pub promise : StartPromise number bit before answer after
+  pub lifetimes : Lfts 1
+  pub out : Place
+  -- what the contract of `start` ensures
+  pub promise : start-contract.Post lifetimes (number, (bit, (lent out before, tt))) answer (number, (bit, (lent out after, tt)))
 
 pub record TrayCall : Type 0 where
   pub state : State
@@ -38,7 +53,11 @@ pub record TrayCall : Type 0 where
   pub before : List ℕ
   pub after : List ℕ
   pub answer : Answer
-  pub promise : TrayPromise state tray before answer after
+  pub lifetimes : Lfts 2
+  pub source : Place
+  pub out : Place
+  -- what the contract of `tray` ensures
+  pub promise : tray-contract.Post lifetimes (state, (lent source tray, (lent out before, tt))) answer (state, (lent source tray, (lent out after, tt)))
 
 -- "trays, worked or refused"
 abbrev pub Accepted : TrayCall → Type 0

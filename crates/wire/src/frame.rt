@@ -67,7 +67,7 @@ pub struct Written {
 }
 
 // The kind of a frame of a round.
-fn kind_of(round: u32) -> u8
+pub fn kind_of(round: u32) -> u8
     ensures { λ r. ⌜ r ≡ kindOf round ⌝ }
 {
     if round == 1 {
@@ -80,7 +80,7 @@ fn kind_of(round: u32) -> u8
 }
 
 // The most numbers that a frame of a kind may list.
-fn max_count(kind: u8) -> usize
+pub fn max_count(kind: u8) -> usize
     ensures { λ r. ⌜ r ≡ maxCount kind ⌝ }
 {
     if kind == 2 {
@@ -92,7 +92,7 @@ fn max_count(kind: u8) -> usize
     }
 }
 
-fn round_fits(round: u32) -> bool
+pub fn round_fits(round: u32) -> bool
     ensures { λ r. ⌜ r ≡ roundFits round ⌝ }
 {
     if 1 <= round {
@@ -114,7 +114,7 @@ fn chosen_by(bit: u8) -> Choice
 }
 
 // What a frame of a kind with a bit says.
-fn said_by(kind: u8, bit: u8) -> Said
+pub fn said_by(kind: u8, bit: u8) -> Said
     ensures { λ r. ⌜ r ≡ saidBy kind bit ⌝ }
 {
     if kind == 1 {
@@ -130,7 +130,7 @@ fn said_by(kind: u8, bit: u8) -> Said
     }
 }
 
-fn bit_fits(kind: u8, bit: u8) -> bool
+pub fn bit_fits(kind: u8, bit: u8) -> bool
     ensures { λ r. ⌜ r ≡ bitFits kind bit ⌝ }
 {
     if kind <= 2 {
@@ -143,7 +143,7 @@ fn bit_fits(kind: u8, bit: u8) -> bool
 }
 
 // The answer for bytes that are void.
-fn void() -> FrameRead
+pub fn void() -> FrameRead
     ensures { λ r. ⌜ r ≡ readStored none ⌝ }
 {
     FrameRead {
@@ -272,7 +272,7 @@ fn bit_chosen(choice: Choice) -> u8
     }
 }
 
-fn kind_said(said: Said) -> u8
+pub fn kind_said(said: Said) -> u8
     ensures { λ r. ⌜ r ≡ kindSaid said ⌝ }
 {
     match said {
@@ -284,7 +284,7 @@ fn kind_said(said: Said) -> u8
     }
 }
 
-fn bit_said(said: Said) -> u8
+pub fn bit_said(said: Said) -> u8
     ensures { λ r. ⌜ r ≡ bitSaid said ⌝ }
 {
     match said {

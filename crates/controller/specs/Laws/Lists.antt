@@ -8,7 +8,7 @@ use native.Mathlib.Omega.{arith}
 use native.Mathlib.Decide.{ℕ-discrete}
 use borrow.Author.Tests.{eqb-true, eqb-false, ltb-true, ltb-false, eq-eqb, lt-ltb, le-ltb}
 use lib.Dec.{eqb, ltb}
-use lib.ListN.{length, getD}
+use lib.ListN.{length, getD, drop}
 use Rattle.wire.specs.Numbers.{rising}
 use Rattle.controller.specs.Lists.{In, Inside, mem, countIf, keep, insert, insertAll, NoRepeats, Rising}
 
@@ -38,6 +38,11 @@ mem-out l t i = true≢false (sym (in-mem i) ∙ t)
 
 pub in-or-not : (x : ℕ) (l : List ℕ) → In x l ⊎ (¬ In x l)
 in-or-not x l = elim (true-or-false (mem x l)) [ inl t ↦ inl (mem-in l t) | inr t ↦ inr (λ i. true≢false (sym (in-mem i) ∙ t)) ]
+
+pub getD-in : (l : List ℕ) (i : ℕ) → i < length l → In (getD l i 0) l
+getD-in [] i h = absurd (omega arith)
+getD-in (x ∷ l) zero h = List·Memᴰ·head refl
+getD-in (x ∷ l) (suc i) h = List·Memᴰ·tail (getD-in l i (omega arith))
 
 pub list-some : (l : List ℕ) → 0 < length l → (x : ℕ) × In x l
 list-some [] h = absurd (omega arith)
@@ -80,6 +85,9 @@ pub count-split : (f : ℕ → Bool) (l : List ℕ) → countIf f l + countIf (�
 count-split f [] = refl
 count-split f (x ∷ l) = let rest = count-split f l in elim (true-or-false (f x)) [ inl t ↦ rw t (omega arith) | inr t ↦ rw t (omega arith) ]
 
+pub count-length : (f : ℕ → Bool) (l : List ℕ) → countIf f l ≤ length l
+count-length f l = omega (arith, count-split f l)
+
 pub count-all : (f : ℕ → Bool) (l : List ℕ) → ((x : ℕ) → In x l → f x ≡ true) → countIf f l ≡ length l
 count-all f [] every = refl
 count-all f (x ∷ l) every = rw (every x (List·Memᴰ·head refl)) (ap suc (count-all f l (λ y i. every y (List·Memᴰ·tail i))))
@@ -93,6 +101,10 @@ count-some f (x ∷ l) h = elim (true-or-false (f x)) [
   | inl t ↦ (x, List·Memᴰ·head refl, t)
   | inr t ↦ let s = count-some f l (rw t at h) in (s .0, List·Memᴰ·tail (s .1), s .2)
 ]
+
+pub count-append : (f : ℕ → Bool) (l m : List ℕ) → countIf f (l ++ m) ≡ countIf f l + countIf f m
+count-append f [] m = omega arith
+count-append f (x ∷ l) m = let rest = count-append f l m in elim (true-or-false (f x)) [ inl t ↦ rw t (omega arith) | inr t ↦ rw t rest ]
 
 -- where one fails the test, fewer than all pass it
 pub count-short : (f : ℕ → Bool) (k : ℕ) {l : List ℕ} → In k l → f k ≡ false → countIf f l < length l
@@ -116,10 +128,36 @@ pub rising-no-repeats : (l : List ℕ) → Rising l → NoRepeats l
 rising-no-repeats [] up = tt
 rising-no-repeats (x ∷ l) up = (λ i. absurd (omega (arith, up .0 x i)), rising-no-repeats l (up .1))
 
+pub drop-rising : (i : ℕ) (l : List ℕ) → Rising l → Rising (drop i l)
+drop-rising zero l up = up
+drop-rising (suc i) [] up = up
+drop-rising (suc i) (x ∷ l) up = drop-rising i l (up .1)
+
+-- two rising lists with the same members are one
+pub rising-same : (l m : List ℕ) → Rising l → Rising m → Inside l m → Inside m l → l ≡ m
+rising-same [] [] up vp i j = refl
+rising-same [] (y ∷ m) up vp i j = absurd (List·Memᴰ·not-nil (j y (List·Memᴰ·head refl)))
+rising-same (x ∷ l) [] up vp i j = absurd (List·Memᴰ·not-nil (i x (List·Memᴰ·head refl)))
+rising-same (x ∷ l) (y ∷ m) up vp i j =
+    let low : x ≤ y = elim (List·Memᴰ·cases-cons (j y (List·Memᴰ·head refl))) [ inl e ↦ omega arith | inr k ↦ omega (arith, up .0 y k) ] in
+    let high : y ≤ x = elim (List·Memᴰ·cases-cons (i x (List·Memᴰ·head refl))) [ inl e ↦ omega arith | inr k ↦ omega (arith, vp .0 x k) ] in
+    let heads : x ≡ y = omega arith in
+    let there : Inside l m = λ z k. elim (List·Memᴰ·cases-cons (i z (List·Memᴰ·tail k))) [ inl e ↦ absurd (omega (arith, up .0 z k)) | inr n ↦ n ] in
+    let back : Inside m l = λ z k. elim (List·Memᴰ·cases-cons (j z (List·Memᴰ·tail k))) [ inl e ↦ absurd (omega (arith, vp .0 z k)) | inr n ↦ n ] in
+    let tails = rising-same l m (up .1) (vp .1) there back in
+    cc
+
 -- the place of k in a rising list is the number of those below k
 pub rising-place : (k : ℕ) (l : List ℕ) → Rising l → In k l → getD l (countIf (λ y. ltb y k) l) 0 ≡ k
 rising-place k (x ∷ l) up (List·Memᴰ·head e) = rw (le-ltb x k (omega arith), count-none (λ y. ltb y k) l (λ y i. le-ltb y k (omega (arith, up .0 y i)))) (sym e)
 rising-place k (x ∷ l) up (List·Memᴰ·tail i) = rw (lt-ltb x k (up .0 k i)) (rising-place k l (up .1) i)
+
+-- and each place is that of the number there
+pub rising-at : (l : List ℕ) (i : ℕ) → Rising l → i < length l → countIf (λ y. ltb y (getD l i 0)) l ≡ i
+rising-at [] i up h = absurd (omega arith)
+rising-at (x ∷ l) zero up h = rw (le-ltb x x (omega arith)) (count-none (λ y. ltb y x) l (λ y j. le-ltb y x (omega (arith, up .0 y j))))
+rising-at (x ∷ l) (suc i) up h =
+    rw (lt-ltb x (getD l i 0) (up .0 (getD l i 0) (getD-in l i (omega arith)))) (ap suc (rising-at l i (up .1) (omega arith)))
 
 -- ---- searches
 
@@ -184,6 +222,10 @@ keep-rising f (x ∷ l) up = elim (true-or-false (f x)) [
   | inr t ↦ rw t (keep-rising f l (up .1))
 ]
 
+pub keep-append : (f : ℕ → Bool) (l m : List ℕ) → keep f (l ++ m) ≡ keep f l ++ keep f m
+keep-append f [] m = refl
+keep-append f (x ∷ l) m = let rest = keep-append f l m in elim (true-or-false (f x)) [ inl t ↦ rw (t, rest) | inr t ↦ rw t rest ]
+
 pub keep-length : (f : ℕ → Bool) (l : List ℕ) → length (keep f l) ≤ length l
 keep-length f [] = zero-le
 keep-length f (x ∷ l) = let rest = keep-length f l in elim (true-or-false (f x)) [ inl t ↦ rw t (omega arith) | inr t ↦ rw t (omega arith) ]
@@ -226,6 +268,13 @@ insert-rising y (z ∷ l) up = elim (true-or-false (ltb y z)) [
   ]
 ]
 
+-- what is in the list already changes nothing
+pub insert-known : (x : ℕ) (l : List ℕ) → Rising l → In x l → insert x l ≡ l
+insert-known x l up i =
+    rising-same (insert x l) l (insert-rising x l up) up
+    (λ y j. elim (insert-in x l .0 j) [ inl e ↦ Memᴰ·cast e i | inr k ↦ k ])
+    (λ y j. insert-in x l .1 (inr j))
+
 pub insert-all-in : {x : ℕ} (m l : List ℕ) → In x (insertAll m l) ↔ (In x m ⊎ In x l)
 insert-all-in [] l = (inr, λ c. elim c [ inl i ↦ absurd (List·Memᴰ·not-nil i) | inr i ↦ i ])
 insert-all-in {x} (y ∷ m) l =
@@ -244,6 +293,25 @@ insert-all-in {x} (y ∷ m) l =
 pub insert-all-rising : (m l : List ℕ) → Rising l → Rising (insertAll m l)
 insert-all-rising [] l up = up
 insert-all-rising (x ∷ m) l up = insert-rising x (insertAll m l) (insert-all-rising m l up)
+
+-- the order in which numbers come in does not matter
+pub insert-all-insert : (x : ℕ) (m l : List ℕ) → Rising l → insertAll m (insert x l) ≡ insert x (insertAll m l)
+insert-all-insert x m l up =
+    rising-same _ _ (insert-all-rising m (insert x l) (insert-rising x l up)) (insert-rising x (insertAll m l) (insert-all-rising m l up))
+    (λ y i. elim (insert-all-in m (insert x l) .0 i) [
+      | inl j ↦ insert-in x (insertAll m l) .1 (inr (insert-all-in m l .1 (inl j)))
+      | inr j ↦ elim (insert-in x l .0 j) [
+        | inl e ↦ insert-in x (insertAll m l) .1 (inl e)
+        | inr k ↦ insert-in x (insertAll m l) .1 (inr (insert-all-in m l .1 (inr k)))
+      ]
+    ])
+    (λ y i. elim (insert-in x (insertAll m l) .0 i) [
+      | inl e ↦ insert-all-in m (insert x l) .1 (inr (insert-in x l .1 (inl e)))
+      | inr j ↦ elim (insert-all-in m l .0 j) [
+        | inl k ↦ insert-all-in m (insert x l) .1 (inl k)
+        | inr k ↦ insert-all-in m (insert x l) .1 (inr (insert-in x l .1 (inr k)))
+      ]
+    ])
 
 -- ---- the test `rising 0` of the formats, in the words above
 

@@ -1,24 +1,45 @@
 -- Laws of what is received: who is heard, and that a frame sent with a sound state reads back as what it says.
-use Prim.Native.Nat.{ℕ, _≤_, _<_}
+use Prim.Native.Nat.{ℕ, zero, suc, _+_, _-_, _≤_, _<_}
 use mathlib.Core.Bool.{Bool, true, false, cond, _&&_}
-use mathlib.Core.List.{List, [], _∷_, List·Memᴰ·not-nil, List·Memᴰ·eq-of-singleton, Memᴰ·cast}
-use mathlib.Core.Logic.{inr, _⊎_, _↔_, _≢_}
+use mathlib.Core.List.{List, [], _∷_, List·Memᴰ·head, List·Memᴰ·tail, List·Memᴰ·not-nil, List·Memᴰ·eq-of-singleton, Memᴰ·cast}
+use mathlib.Core.Logic.{inl, inr, _⊎_, _↔_, _≢_}
 use mathlib.Core.Option.{Option, some, none}
-use mathlib.Core.Path.{_≡_, refl}
+use mathlib.Core.Path.{_≡_, refl, sym, _∙_, ap}
 use borrow.Author.Tests.{le-leb, eq-eqb, ne-eqb}
+use native.Mathlib.Decide.{ℕ-discrete}
 use native.Mathlib.Omega.{arith}
 use lib.Dec.{eqb, ltb}
 use lib.ListN.{length}
-use Rattle.wire.specs.Frame.{Content, content, kindOf, kindSaid, bitSaid, frameBytes, roundFits, writable, maxCount}
-use Rattle.wire.specs.Laws.Frame.{kind-range, said-kind, said-bit, said-allowed, writable-gives, reads-written, read-writable}
+use Rattle.wire.specs.Frame.{Content, content, kindOf, kindSaid, bitSaid, frameBytes, roundFits, writable, maxCount, readStored, readView}
+use Rattle.wire.specs.Laws.Frame.{view-stored, kind-range, said-kind, said-bit, said-allowed, writable-gives, reads-written, read-writable}
 use Rattle.wire.specs.Limits.{maxNumbers, lastRound}
 use Rattle.wire.specs.Numbers.{rising}
-use Rattle.wire.specs.Tray.{Entry, firstBytes}
+use Rattle.wire.specs.Tray.{Entry, entryCount, sender, entriesFrom, entries, firstBytes}
+use Rattle.wire.specs.declared.frame.FrameRead.{FrameRead}
 use Rattle.controller.specs.Lists.{In, Rising}
 use Rattle.controller.specs.State.{View}
 use Rattle.controller.specs.Received.{frameOf, senders, heardAfter, readIn, received, says, opinionIn, listIn}
 use Rattle.controller.specs.Laws.Lists.{inside-length, insert-all-in, insert-all-rising, rising-gives, rising-test}
 use Rattle.controller.specs.Laws.State.{SoundList, Sound}
+
+-- ---- the directory's senders
+
+-- one step along the directory, as a loop over it takes it
+pub senders-step : (b : List ℕ) (n i : ℕ) → i < n → senders (entriesFrom b (n - i) i) ≡ sender b i ∷ senders (entriesFrom b (n - (i + 1)) (i + 1))
+senders-step b n i h = let e : n - i ≡ suc (n - (i + 1)) = omega arith in rw e
+
+senders-from-in : (b : List ℕ) (n i j : ℕ) → i ≤ j → j < i + n → In (sender b j) (senders (entriesFrom b n i))
+senders-from-in b zero i j l u = absurd (omega arith)
+senders-from-in b (suc n) i j l u = elim (ℕ-discrete j i) [
+  | yes e ↦ List·Memᴰ·head (ap (sender b) e)
+  | no d ↦ List·Memᴰ·tail (senders-from-in b n (i + 1) j (omega arith) (omega arith))
+]
+
+pub sender-in : (b : List ℕ) (i : ℕ) → i < entryCount b → In (sender b i) (senders (entries b))
+unfolding entries
+sender-in b i h = senders-from-in b (entryCount b) 0 i (omega arith) (omega arith)
+
+-- ---- who is heard, and the frame under each number
 
 pub heard-in : {x : ℕ} (v : View) (es : List Entry) → In x (heardAfter v es) ↔ (In x (senders es) ⊎ In x (v .heard))
 unfolding heardAfter
@@ -41,6 +62,20 @@ received-own v es = rw (eq-eqb (v .own) (v .own) refl)
 pub received-other : (v : View) (es : List Entry) (x : ℕ) → x ≢ v .own → received v es x ≡ readIn (v .round) (firstBytes x es)
 unfolding received
 received-other v es x h = rw (ne-eqb x (v .own) h)
+
+-- one that is not heard is not oneself and has no entry
+first-none : (x : ℕ) (es : List Entry) → (¬ In x (senders es)) → firstBytes x es ≡ none
+first-none x [] out = refl
+first-none x (e ∷ es) out = rw (ne-eqb (e .sender) x (λ q. out (List·Memᴰ·head (sym q)))) (first-none x es (λ i. out (List·Memᴰ·tail i)))
+
+pub unheard-received : (v : View) (es : List Entry) → Sound v → (x : ℕ) → (¬ In x (heardAfter v es)) → received v es x ≡ none
+unheard-received v es h x out =
+    let other : x ≢ v .own = λ e. out (heard-in v es .1 (inr (Memᴰ·cast e (h .hears-itself)))) in
+    received-other v es x other ∙ rw (first-none x es (λ i. out (heard-in v es .1 (inl i))))
+
+-- a frame in its stored form says what it says
+pub stored-says : (r : FrameRead) (o : Option Content) (k b : ℕ) → r ≡ readStored o → says k b (readView r) ≡ says k b o
+stored-says r o k b e = rw (e, view-stored o)
 
 -- ---- the frame of a sound state
 
@@ -104,7 +139,7 @@ read-allowed : (t : ℕ) (b : Option (List ℕ)) (c : Content) → readIn t b �
 read-allowed t none c e = let z : _≡_ {A = ℕ} 0 1 = cc in absurd (omega arith)
 read-allowed t (some b) c e = read-writable b t c e
 
-received-allowed : (v : View) (es : List Entry) → Sound v → (x : ℕ) (c : Content) → received v es x ≡ some c → writable c ≡ true
+pub received-allowed : (v : View) (es : List Entry) → Sound v → (x : ℕ) (c : Content) → received v es x ≡ some c → writable c ≡ true
 unfolding received
 received-allowed v es h x c = pick (eqb x (v .own))
   where

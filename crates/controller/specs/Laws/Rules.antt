@@ -30,6 +30,15 @@ pub kind-later : (t k : ℕ) → 3 ≤ t → t % 3 ≡ k → kindOf t ≡ 3 + k
 unfolding kindOf
 kind-later t k l e = rw (ne-eqb t 1 (λ q. omega arith), ne-eqb t 2 (λ q. omega arith), e)
 
+-- no round but the first has kind 1
+pub kind-above : (t : ℕ) → 2 ≤ t → 2 ≤ kindOf t
+unfolding kindOf
+kind-above t l = rw (ne-eqb t 1 (λ q. omega arith)) (pick (eqb t 2))
+  where
+    pick : (a : Bool) → 2 ≤ cond a 2 (3 + t % 3)
+    pick true = omega arith
+    pick false = omega arith
+
 pub next-roster : (v : View) (es : List Entry) → v .round ≡ 1 → next v es ≡ makeRoster v es
 unfolding next kindOf
 next-roster v es e = rw e
@@ -45,6 +54,23 @@ next-propose v es r e = rw (kind-later (v .round + 1) 1 (omega arith) (omega ari
 pub next-turn : (v : View) (es : List Entry) (r : ℕ) → v .round ≡ 4 + 3 * r → next v es ≡ makeTurn v es
 unfolding next
 next-turn v es r e = rw (kind-later (v .round + 1) 2 (omega arith) (omega arith))
+
+-- the same, by the kind of the frame that is made
+pub next-kind-roster : (v : View) (es : List Entry) → kindOf (v .round + 1) ≡ 2 → next v es ≡ makeRoster v es
+unfolding next
+next-kind-roster v es e = rw e
+
+pub next-kind-value : (v : View) (es : List Entry) → kindOf (v .round + 1) ≡ 3 → next v es ≡ makeValue v es
+unfolding next
+next-kind-value v es e = rw e
+
+pub next-kind-propose : (v : View) (es : List Entry) → kindOf (v .round + 1) ≡ 4 → next v es ≡ makePropose v es
+unfolding next
+next-kind-propose v es e = rw e
+
+pub next-kind-turn : (v : View) (es : List Entry) → kindOf (v .round + 1) ≡ 5 → next v es ≡ makeTurn v es
+unfolding next
+next-kind-turn v es e = rw e
 
 pub phase-is : (v : View) (r : ℕ) → v .round ≡ 2 + 3 * r → phase v ≡ r
 phase-is v r e = omega arith
@@ -115,7 +141,7 @@ proposal-bound : (v : View) (es : List Entry) → proposal v es ≤ 2
 unfolding proposal
 proposal-bound v es = choice-bound (valueTwoThirds v es 0) 0 _ 2 (λ t. omega arith) (choice-bound (valueTwoThirds v es 1) 1 2 2 (λ t. omega arith) (omega arith))
 
-bit-adopted-bound : (v : View) (es : List Entry) → v .bit ≤ 1 → bitAdopted v es ≤ 1
+pub bit-adopted-bound : (v : View) (es : List Entry) → v .bit ≤ 1 → bitAdopted v es ≤ 1
 unfolding bitAdopted
 bit-adopted-bound v es l =
     choice-bound (undecided v && proposalThird v es 0 && not (proposalThird v es 1)) 0 _ 1 (λ t. omega arith)
@@ -150,7 +176,7 @@ said-bit : (v : View) (es : List Entry) → kindOf ((next v es) .round) ≡ 3 �
 unfolding next
 said-bit v es e = let k : kindOf (v .round + 1) ≡ 3 = rw (next-round v es) at e in rw k
 
-heard-positive : (v : View) (es : List Entry) → Sound v → (¬ In 0 (senders es)) → (x : ℕ) → In x (heardAfter v es) → 0 < x
+pub heard-positive : (v : View) (es : List Entry) → Sound v → (¬ In 0 (senders es)) → (x : ℕ) → In x (heardAfter v es) → 0 < x
 heard-positive v es h z x i = elim (heard-in v es .0 i) [
   | inl j ↦ elim (ℕ-discrete x 0) [ yes e ↦ absurd (z (Memᴰ·cast (sym e) j)) | no d ↦ omega arith ]
   | inr j ↦ h .heard .positive x j

@@ -76,6 +76,11 @@ same-test : (l : List ℕ) → same l l ≡ true
 same-test [] = refl
 same-test (x ∷ l) = rw (eq-eqb x x refl) (same-test l)
 
+-- a part that both begin with is the same
+pub same-append : (l m k : List ℕ) → same (l ++ m) (l ++ k) ≡ same m k
+same-append [] m k = refl
+same-append (x ∷ l) m k = rw (eq-eqb x x refl) (same-append l m k)
+
 none-gives : (l : List ℕ) → none l ≡ true → l ≡ []
 none-gives [] h = refl
 none-gives (x ∷ l) h = absurd (omega (arith, eqb-true (length (x ∷ l)) 0 h))
@@ -86,12 +91,13 @@ when-is true b = (λ h e. h, λ f. f refl)
 when-is false b = (λ h e. absurd (true≢false (sym e)), λ f. refl)
 
 -- a list that passes is short and rises from above 0, and its stored form is the one in hand
-record ListTests (n : Numbers) : Type 0 where
-  list : SoundList (listed n)
-  back : stored (listed n) ≡ n
+pub record ListTests (n : Numbers) : Type 0 where
+  pub list : SoundList (listed n)
+  pub back : stored (listed n) ≡ n
+  pub used : length (listed n) ≡ n .len
 
-list-gives : (n : Numbers) → soundList n ≡ true → ListTests n
-list-gives n h =
+pub sound-list-gives : (n : Numbers) → soundList n ≡ true → ListTests n
+sound-list-gives n h =
     let l = listed n in
     let e₂ = and-eq-true-iff (leb (n .len) maxNumbers && rising 0 l) (same (n .at) ((stored l) .at)) .0 h in
     let e₁ = and-eq-true-iff (leb (n .len) maxNumbers) (rising 0 l) .0 (e₂ .0) in
@@ -103,10 +109,11 @@ list-gives n h =
     record {
       list = record { short = omega arith; rises = up .0; positive = up .1 };
       back = λ i. record { len = len i; at = sym at i };
+      used = len;
     }
 
-list-test : (l : List ℕ) → SoundList l → soundList (stored l) ≡ true
-list-test l h =
+pub sound-list-test : (l : List ℕ) → SoundList l → soundList (stored l) ≡ true
+sound-list-test l h =
     rw (listed-stored l, le-leb (length l) maxNumbers (h .short), rising-test l (h .rises) (h .positive))
     (same-test ((stored l) .at))
 
@@ -182,9 +189,9 @@ sound-gives s h =
       late = leb-true _ _ (round .1);
       numbered = eqb-false _ _ (not-true _ (t .numbered));
       hears-itself = mem-in _ (t .hears-itself);
-      heard = list-gives (s .heard) (t .heard) .list;
-      candidates = list-gives (s .candidates) (t .candidates) .list;
-      echoes = list-gives (s .echoes) (t .echoes) .list;
+      heard = sound-list-gives (s .heard) (t .heard) .list;
+      candidates = sound-list-gives (s .candidates) (t .candidates) .list;
+      echoes = sound-list-gives (s .echoes) (t .echoes) .list;
       said = said .0;
       said-value = λ e. eqb-true _ _ (when-is _ _ .0 (said .1) (eq-eqb _ _ e));
       no-candidates = λ l. none-gives _ (when-is _ _ .0 (empty .0) (le-leb _ _ l));
@@ -194,13 +201,16 @@ sound-gives s h =
       decision = leb-true _ _ (t .decision);
     }
 
+pub sound-heard : (s : State) → sound s ≡ true → soundList (s .heard) ≡ true
+sound-heard s h = tests-give s h .heard
+
 -- a sound state is the stored form of its view
 pub sound-stored : (s : State) → sound s ≡ true → image (view s) ≡ s
 sound-stored s h =
     let t = tests-give s h in
-    let heard = list-gives (s .heard) (t .heard) .back in
-    let candidates = list-gives (s .candidates) (t .candidates) .back in
-    let echoes = list-gives (s .echoes) (t .echoes) .back in
+    let heard = sound-list-gives (s .heard) (t .heard) .back in
+    let candidates = sound-list-gives (s .candidates) (t .candidates) .back in
+    let echoes = sound-list-gives (s .echoes) (t .echoes) .back in
     λ i.
     record {
       own = s .own;
@@ -223,9 +233,9 @@ sound-test v h =
       round = and-eq-true-iff (leb 1 (v .round)) (leb (v .round) lastRound) .1 (le-leb _ _ (h .early), le-leb _ _ (h .late));
       numbered = ap not (ne-eqb _ _ (h .numbered));
       hears-itself = rw (listed-stored (v .heard)) (in-mem (h .hears-itself));
-      heard = list-test (v .heard) (h .heard);
-      candidates = list-test (v .candidates) (h .candidates);
-      echoes = list-test (v .echoes) (h .echoes);
+      heard = sound-list-test (v .heard) (h .heard);
+      candidates = sound-list-test (v .candidates) (h .candidates);
+      echoes = sound-list-test (v .echoes) (h .echoes);
       said = and-eq-true-iff _ _ .1 (h .said, when-is _ _ .1 (λ e. eq-eqb _ _ (h .said-value (eqb-true _ _ e))));
       empty =
           and-eq-true-iff _ _ .1 (

@@ -71,7 +71,7 @@ frame-reads s t r e =
     pick true = refl
     pick false = refl
 
-view-stored : (o : Option Content) → readView (readStored o) ≡ o
+pub view-stored : (o : Option Content) → readView (readStored o) ≡ o
 view-stored none = refl
 view-stored (some c) =
     let numbers = listed-stored (c .numbers) in

@@ -1,0 +1,98 @@
+-- `controller::calls::start` meets its contract: each test that fails gives `startRefusal` its number; where none does the first state is sound and its frame is sent.
+use Prim.Native.Nat.{ℕ, _≤_, _<_}
+use mathlib.Core.Bool.{Bool, true, false, not, cond, _&&_}
+use mathlib.Core.Path.{_≡_, refl, ap, _∙_}
+use borrow.Author.Needs.{needs}
+use borrow.Author.Tests.{le-leb, lt-leb, eq-eqb, ne-eqb}
+use lib.Dec.{eqb, leb}
+use lib.ListN.{length}
+use Rattle.controller.specs.Laws.State.{view-image, start-sound, sound-test}
+use Rattle.controller.specs.Refusals.{startRefusal}
+use Rattle.controller.specs.State.{view}
+use Rattle.controller.specs.declared.state.Answer.{Answer}
+use Rattle.controller.specs.declared.state.State.{State}
+use Rattle.wire.specs.Limits.{maxFrame}
+use Rattle.controller.proofs.Promises.{promise-refused, promise-accepted}
+use Rattle.controller.proofs.calls.start.Statement.{statement}
+use Rattle.controller.proofs.calls.start.Tie as tie
+
+abbrev refusal : ℕ → State → Answer
+refusal k s = record { refusal = k; state = s; length = 0 }
+
+module _ (number bit n : ℕ) where
+  zero : number ≡ 0 → startRefusal number bit n ≡ 9
+  unfolding startRefusal
+  zero e = rw (eq-eqb number 0 e)
+
+  over : 1 < bit → startRefusal number bit n ≡ 9
+  unfolding startRefusal
+  over l = rw (lt-leb bit 1 l) (pick (not (eqb number 0)))
+    where
+      pick : (t : Bool) → _≡_ {A = ℕ} (cond (t && false) (cond (leb maxFrame n) 0 3) 9) 9
+      pick true = refl
+      pick false = refl
+
+  tight : (number ≡ 0 → ⊥) → bit ≤ 1 → n < maxFrame → startRefusal number bit n ≡ 3
+  unfolding startRefusal
+  tight z l r = rw (ne-eqb number 0 z, le-leb bit 1 l, lt-leb maxFrame n r)
+
+  fits : (number ≡ 0 → ⊥) → bit ≤ 1 → maxFrame ≤ n → startRefusal number bit n ≡ 0
+  unfolding startRefusal
+  fits z l r = rw (ne-eqb number 0 z, le-leb bit 1 l, le-leb maxFrame n r)
+
+zero-state-requires : tie.Need-zero-state-requires
+zero-state-requires c κs = search needs
+
+refused-requires : tie.Need-refused-requires
+refused-requires c κs = search needs
+
+returns : tie.Need-returns
+returns c = promise-refused _ 9 _ _ _ _ (zero (c .before .before .before .before .args .number) (c .before .before .before .before .args .bit) _ (c .before .before .if1 .taken)) refl (c .refused .ensures ∙ ap (refusal 9) (c .before .zero-state .ensures))
+
+zero-state-requires-2 : tie.Need-zero-state-requires-2
+zero-state-requires-2 c κs = search needs
+
+refused-requires-2 : tie.Need-refused-requires-2
+refused-requires-2 c κs = search needs
+
+returns-2 : tie.Need-returns-2
+returns-2 c = promise-refused _ 9 _ _ _ _ (over (c .before .before .before .before .before .args .number) (c .before .before .before .before .before .args .bit) _ (c .before .before .if2 .taken)) refl (c .refused2 .ensures ∙ ap (refusal 9) (c .before .zero-state2 .ensures))
+
+zero-state-requires-3 : tie.Need-zero-state-requires-3
+zero-state-requires-3 c κs = search needs
+
+refused-requires-3 : tie.Need-refused-requires-3
+refused-requires-3 c κs = search needs
+
+returns-3 : tie.Need-returns-3
+returns-3 c = promise-refused _ 3 _ _ _ _ (tight (c .before .before .before .before .before .before .args .number) (c .before .before .before .before .before .before .args .bit) _ (c .before .before .before .before .if1 .left) (c .before .before .before .if2 .left) (c .before .before .if3 .taken)) refl (c .refused3 .ensures ∙ ap (refusal 3) (c .before .zero-state3 .ensures))
+
+first-state-requires : tie.Need-first-state-requires
+first-state-requires c κs = search needs
+
+send-requires : tie.Need-send-requires
+send-requires c κs = (rw (c .before .first-state .ensures) (sound-test _ (start-sound _ _ (c .before .before .before .before .if1 .left) (c .before .before .before .if2 .left))), c .before .before .if3 .left)
+
+same-length : tie.Need-same-length
+same-length c = search needs
+
+returns-4 : tie.Need-returns-4
+returns-4 c = promise-accepted _ _ _ _ _ _ _ _ (fits (c .before .before .before .before .before .before .before .before .before .args .number) (c .before .before .before .before .before .before .before .before .before .args .bit) _ (c .before .before .before .before .before .before .before .if1 .left) (c .before .before .before .before .before .before .if2 .left) (c .before .before .before .before .before .if3 .left)) (ap view (c .before .before .before .before .first-state .ensures) ∙ view-image _) (c .before .before .send .ensures)
+
+pub start-spec : {M : Type 1} → statement M
+start-spec =
+    tie.close
+    (tie.spec
+    zero-state-requires
+    refused-requires
+    returns
+    zero-state-requires-2
+    refused-requires-2
+    returns-2
+    zero-state-requires-3
+    refused-requires-3
+    returns-3
+    first-state-requires
+    send-requires
+    same-length
+    returns-4)

@@ -1,0 +1,101 @@
+-- `controller::received::senders_fit` meets its contract: the senders that are left fit exactly if all do.
+use Prim.Native.Nat.{ℕ, _+_, _-_, _≤_, _<_}
+use mathlib.Core.Bool.{Bool, true, false, not, _&&_, and-false}
+use mathlib.Core.List.{List, _∷_}
+use mathlib.Core.Path.{_≡_, sym, _∙_}
+use native.Mathlib.Nat.{sub-zero}
+use native.Mathlib.Omega.{arith}
+use borrow.Author.Needs.{needs}
+use borrow.Author.Tests.{eq-eqb, ne-eqb}
+use denote.Ref.{now}
+use Rattle.controller.specs.Laws.Received.{senders-step}
+use Rattle.controller.specs.Lists.{mem}
+use Rattle.controller.specs.Received.{senders}
+use Rattle.wire.specs.Tray.{sender, entriesFrom, entries}
+use Rattle.controller.proofs.received.senders_fit.Statement.{statement}
+use Rattle.controller.proofs.received.senders_fit.Tie as tie
+
+-- the senders from entry i on
+abbrev rest : List ℕ → ℕ → ℕ → List ℕ
+rest b n i = senders (entriesFrom b (n - i) i)
+
+abbrev fit : ℕ → List ℕ → Bool
+fit own l = not (mem 0 l) && not (mem own l)
+
+module _ (b : List ℕ) (own n i x : ℕ) (h : i < n) (e : x ≡ sender b i) where
+  next : rest b n i ≡ x ∷ rest b n (i + 1)
+  next = senders-step b n i h ∙ rw e
+
+  nobody : x ≡ 0 → false ≡ fit own (rest b n i)
+  nobody z = rw (next, eq-eqb 0 x (sym z))
+
+  oneself : x ≡ own → false ≡ fit own (rest b n i)
+  oneself o = rw (next, eq-eqb own x (sym o)) (sym (and-false (not (mem 0 (x ∷ rest b n (i + 1))))))
+
+  another : (x ≡ 0 → ⊥) → (x ≡ own → ⊥) → fit own (rest b n (i + 1)) ≡ fit own (rest b n i)
+  another z o = rw (next, ne-eqb 0 x (λ d. z (sym d)), ne-eqb own x (λ d. o (sym d)))
+
+done : (b : List ℕ) (own n i : ℕ) → n ≤ i → true ≡ fit own (rest b n i)
+done b own n i h = let e : n - i ≡ 0 = omega arith in rw e
+
+abbrev Inv-loop : tie.InvT-loop
+Inv-loop tray own count i₀ i = (i ≤ count) × (fit own (rest tray count i) ≡ fit own (senders (entries tray)))
+
+abbrev μ-loop : tie.MeasureT-loop
+μ-loop tray own count i₀ i = count - i
+
+entry-count-requires : tie.Need-entry-count-requires Inv-loop μ-loop
+entry-count-requires c κs = search needs
+
+loop-holds : tie.Need-loop-holds Inv-loop μ-loop
+unfolding entries
+loop-holds c = (search needs, rw (c .entry-count .ensures, sub-zero))
+
+entry-sender-requires : tie.Need-entry-sender-requires Inv-loop μ-loop
+entry-sender-requires c κs = search needs
+
+returns : tie.Need-returns Inv-loop μ-loop
+returns c =
+    let v = c .before .before .before .loop in
+    let a = c .before .before .before .before .before .before .args in
+    nobody (now (a .tray)) (a .state .own) (c .before .before .before .before .entry-count .result) (v .i) _ (c .before .before .loop-test .taken) (c .before .entry-sender .ensures) (c .if1 .taken) ∙ v .inv .1
+
+returns-2 : tie.Need-returns-2 Inv-loop μ-loop
+returns-2 c =
+    let v = c .before .before .before .before .loop in
+    let a = c .before .before .before .before .before .before .before .args in
+    oneself (now (a .tray)) (a .state .own) (c .before .before .before .before .before .entry-count .result) (v .i) _ (c .before .before .before .loop-test .taken) (c .before .before .entry-sender .ensures) (c .if2 .taken) ∙ v .inv .1
+
+add-i : tie.Need-add-i Inv-loop μ-loop
+add-i c = search needs
+
+loop-less : tie.Need-loop-less Inv-loop μ-loop
+loop-less c = search needs
+
+loop-again : tie.Need-loop-again Inv-loop μ-loop
+loop-again c =
+    let v = c .before .before .before .before .loop in
+    let a = c .before .before .before .before .before .before .before .args in
+    (search needs, another (now (a .tray)) (a .state .own) (c .before .before .before .before .before .entry-count .result) (v .i) _ (c .before .before .before .loop-test .taken) (c .before .before .entry-sender .ensures) (c .before .if1 .left) (c .if2 .left) ∙ v .inv .1)
+
+returns-3 : tie.Need-returns-3 Inv-loop μ-loop
+returns-3 c =
+    let v = c .before .loop in
+    let a = c .before .before .before .before .args in
+    done (now (a .tray)) (a .state .own) (c .before .before .entry-count .result) (v .i) (c .loop-test .left) ∙ v .inv .1
+
+pub senders-fit-spec : {M : Type 1} → statement M
+senders-fit-spec =
+    tie.close
+    (tie.spec
+    Inv-loop
+    μ-loop
+    entry-count-requires
+    loop-holds
+    entry-sender-requires
+    returns
+    returns-2
+    add-i
+    loop-less
+    loop-again
+    returns-3)

@@ -1,0 +1,215 @@
+// What is received in a round: who is heard, and the frame under each heard number.
+ghost use mathlib.Core.Bool.{true};
+ghost use mathlib.Core.Option.{some};
+ghost use mathlib.Core.Path.{_≡_};
+ghost use Prim.Native.Nat.{ℕ, _<_};
+ghost use lib.ListN.{getD};
+ghost use Rattle.wire.specs.Frame.{readStored, readView};
+ghost use Rattle.wire.specs.Numbers.{listed};
+ghost use Rattle.wire.specs.Tray.{wellFormed, entries, place, bytesAt, firstBytes};
+ghost use Rattle.controller.specs.Lists.{In, insertAll};
+ghost use Rattle.controller.specs.State.{view, sound, soundList};
+ghost use Rattle.controller.specs.Received.{senders, readIn, received, frameOf, says, opinionIn, count};
+ghost use Rattle.controller.specs.Refusals.{sendersFit};
+ghost use Rattle.controller.specs.Storage.{grown, Ready};
+use crate::lists::Grown;
+use crate::lists::has;
+use crate::lists::insert;
+use crate::lists::no_numbers;
+use crate::lists::place_of;
+use crate::state::State;
+use wire::frame::Frame;
+use wire::frame::FrameRead;
+use wire::frame::Numbers;
+use wire::frame::Read;
+use wire::frame::bit_said;
+use wire::frame::kind_of;
+use wire::frame::kind_said;
+use wire::frame::max_count;
+use wire::frame::said_by;
+use wire::frame::void;
+use wire::limits::MAX_NUMBERS;
+use wire::tray::Found;
+use wire::tray::entry_count;
+use wire::tray::entry_place;
+use wire::tray::entry_sender;
+use wire::tray::read_part;
+
+// For each heard number its first entry in the directory; the entry count for one that has none.
+pub(crate) struct Firsts {
+    pub at: [usize; MAX_NUMBERS],
+}
+
+// Whether no sender in the directory is 0 or the own number.
+pub(crate) fn senders_fit(tray: &[u8], state: State) -> bool
+    requires { ⌜ wellFormed (now tray) ≡ true ⌝ }
+    ensures { λ r. ⌜ r ≡ sendersFit (view state) (entries (now (tray .entry))) ⌝ }
+{
+    let own = state.own;
+    let count = entry_count(tray);
+    let mut i = 0;
+    while i < count {
+        let x = entry_sender(tray, i);
+        if x == 0 {
+            return false;
+        }
+        if x == own {
+            return false;
+        }
+        i += 1;
+    }
+    true
+}
+
+// Heard, with the directory's senders in it.
+pub(crate) fn heard_with(tray: &[u8], heard: Numbers) -> Grown
+    requires { ⌜ (wellFormed (now tray) ≡ true) × (soundList heard ≡ true) × (¬ In 0 (senders (entries (now tray)))) ⌝ }
+    ensures { λ r. ⌜ r ≡ grown (insertAll (senders (entries (now (tray .entry)))) (listed heard)) heard ⌝ }
+{
+    let count = entry_count(tray);
+    let mut list = heard;
+    let mut i = 0;
+    while i < count {
+        let more = insert(list, entry_sender(tray, i));
+        let fits = more.fits;
+        if fits {
+            list = more.list;
+        } else {
+            return Grown {
+                fits: false,
+                list: heard,
+            };
+        }
+        i += 1;
+    }
+    Grown { fits: true, list }
+}
+
+// Goes through the directory from its end, so that a sender's first entry is the one that stays.
+pub(crate) fn first_entries(tray: &[u8], heard: Numbers) -> Firsts
+    requires { ⌜ (wellFormed (now tray) ≡ true) × (soundList heard ≡ true) × ((x : ℕ) → In x (senders (entries (now tray))) → In x (listed heard)) ⌝ }
+    ensures { λ r. ⌜ ((j : ℕ) → j < heard .len → bytesAt (now (tray .entry)) (place (now (tray .entry)) (getD (r .at) j 0)) ≡ firstBytes (getD (listed heard) j 0) (entries (now (tray .entry)))) ⌝ }
+{
+    let count = entry_count(tray);
+    let mut at = [count; MAX_NUMBERS];
+    let mut i = count;
+    while 0 < i {
+        i -= 1;
+        let j = place_of(heard, entry_sender(tray, i));
+        if j < MAX_NUMBERS {
+            at[j] = i;
+        }
+    }
+    Firsts { at }
+}
+
+// The frame sent with a state, as a reader has it.
+pub(crate) fn own_frame(state: State) -> FrameRead
+    requires { ⌜ sound state ≡ true ⌝ }
+    ensures { λ r. ⌜ r ≡ readStored (some (frameOf (view state))) ⌝ }
+{
+    let round = state.round;
+    let kind = kind_of(round);
+    let said = said_by(kind, state.said);
+    let read = Read::Valid(Frame { round, said });
+    if 0 < max_count(kind) {
+        let numbers = state.echoes;
+        FrameRead { read, numbers }
+    } else {
+        let numbers = no_numbers();
+        FrameRead { read, numbers }
+    }
+}
+
+// The frame of an entry, void where there is no such entry.
+fn entry_frame(tray: &[u8], entry: usize, round: u32) -> FrameRead
+    ensures { λ r. ⌜ r ≡ readStored (readIn round (bytesAt (now (tray .entry)) (place (now (tray .entry)) entry))) ⌝ }
+{
+    let found = entry_place(tray, entry);
+    match found {
+        Found::At(offset, len) => read_part(tray, offset, len, round),
+        Found::Nothing => void(),
+    }
+}
+
+// The frame received under the heard number at place `j`.
+pub(crate) fn received(
+    state: State,
+    tray: &[u8],
+    heard: Numbers,
+    firsts: Firsts,
+    j: usize,
+) -> FrameRead
+    requires { ⌜ Ready state (now tray) heard firsts × (j < heard .len) ⌝ }
+    ensures { λ r. ⌜ r ≡ readStored (received (view state) (entries (now (tray .entry))) (getD (listed heard) j 0)) ⌝ }
+{
+    let x = heard.at[j];
+    let entry = firsts.at[j];
+    let own = state.own;
+    if x == own {
+        own_frame(state)
+    } else {
+        entry_frame(tray, entry, state.round)
+    }
+}
+
+// Whether a frame is of a kind and has a bit.
+pub(crate) fn frame_says(frame: FrameRead, kind: u8, bit: u8) -> bool
+    ensures { λ r. ⌜ r ≡ says kind bit (readView frame) ⌝ }
+{
+    let read = frame.read;
+    match read {
+        Read::Valid(content) => {
+            let said = content.said;
+            if kind_said(said) == kind {
+                bit_said(said) == bit
+            } else {
+                false
+            }
+        }
+        Read::Void => false,
+    }
+}
+
+// The opinion that a frame carries, 2 where it carries none.
+pub(crate) fn frame_opinion(frame: FrameRead) -> u8
+    ensures { λ r. ⌜ r ≡ opinionIn (readView frame) ⌝ }
+{
+    let read = frame.read;
+    match read {
+        Read::Valid(content) => {
+            let said = content.said;
+            if kind_said(said) == 5 {
+                bit_said(said)
+            } else {
+                2
+            }
+        }
+        Read::Void => 2,
+    }
+}
+
+// How many of those heard sent a frame of a kind with a bit.
+pub(crate) fn count_says(
+    state: State,
+    tray: &[u8],
+    heard: Numbers,
+    firsts: Firsts,
+    kind: u8,
+    bit: u8,
+) -> usize
+    requires { ⌜ Ready state (now tray) heard firsts ⌝ }
+    ensures { λ r. ⌜ r ≡ count (says kind bit) (view state) (entries (now (tray .entry))) ⌝ }
+{
+    let len = heard.len;
+    let mut total = 0;
+    let mut j = 0;
+    while j < len {
+        let frame = received(state, tray, heard, firsts, j);
+        if frame_says(frame, kind, bit) {
+            total += 1;
+        }
+        j += 1;
+    }
+    total
+}

@@ -1,0 +1,125 @@
+// What the faulty controller 3 sends, to each receiver and in each round, under each lie.
+ghost use Prim.Native.Nat.{_≤_, _<_};
+use crate::packing::Packet;
+use wire::frame::Frame;
+use wire::frame::kind_of;
+use wire::frame::said_by;
+use wire::frame::write_frame;
+
+pub(crate) enum Lie {
+    // Init to 5 and 7, a roster of 3 alone to 9, then nothing: document 01's last trial.
+    Trial,
+    // Nothing.
+    Silence,
+    // Another value and another proposal to each receiver.
+    Faces,
+    // Another opinion to each receiver.
+    King,
+    // Bytes that are no frame.
+    Void,
+}
+
+fn nothing() -> Packet {
+    Packet {
+        sender: 0,
+        len: 0,
+        bytes: [0; 264],
+    }
+}
+
+// A frame that lists the first `count` numbers of the network; nothing where the writer refuses it.
+fn frame(round: u32, bit: u8, count: usize) -> Packet
+    requires { ⌜ count ≤ 4 ⌝ }
+{
+    let numbers = [3, 5, 7, 9];
+    let mut bytes = [0; 264];
+    let said = said_by(kind_of(round), bit);
+    let written = write_frame(Frame { round, said }, &numbers[0..count], &mut bytes);
+    if written.refusal == 0 {
+        Packet {
+            sender: 3,
+            len: written.length,
+            bytes,
+        }
+    } else {
+        nothing()
+    }
+}
+
+fn by_trial(round: u32, to: u32) -> Packet {
+    if round == 1 {
+        if to == 9 { nothing() } else { frame(1, 2, 0) }
+    } else if round == 2 {
+        if to == 9 { frame(2, 2, 1) } else { nothing() }
+    } else {
+        nothing()
+    }
+}
+
+// Init, and the roster that a correct controller would send: 3 becomes a candidate, and the king of phase 0.
+fn joining(round: u32) -> Packet {
+    if round == 1 {
+        frame(1, 2, 0)
+    } else {
+        frame(2, 2, 4)
+    }
+}
+
+// The receiver's place among 5, 7 and 9.
+fn place_of(to: u32) -> u32
+    ensures { λ r. ⌜ r < 3 ⌝ }
+{
+    match to {
+        5 => 0,
+        7 => 1,
+        _ => 2,
+    }
+}
+
+// 0, 1 or 2 (none): another for each receiver in a phase, and for each receiver another in the next phase.
+fn face(round: u32, to: u32) -> u8 {
+    let turned = round / 3 + place_of(to);
+    (turned % 3) as u8
+}
+
+// A value cannot be none: the writer refuses it, and that receiver gets no frame. As king, 3 has no opinion here.
+fn two_faced(round: u32, to: u32) -> Packet {
+    let kind = kind_of(round);
+    if kind <= 2 {
+        joining(round)
+    } else if kind == 5 {
+        frame(round, 2, 0)
+    } else {
+        frame(round, face(round, to), 0)
+    }
+}
+
+// No value and no proposal, so that nobody in phase 0 is strong and all look to the king.
+fn by_king(round: u32, to: u32) -> Packet {
+    let kind = kind_of(round);
+    if kind <= 2 {
+        joining(round)
+    } else if kind == 5 {
+        frame(round, face(round, to), 0)
+    } else {
+        nothing()
+    }
+}
+
+fn void() -> Packet {
+    Packet {
+        sender: 3,
+        len: 8,
+        bytes: [255; 264],
+    }
+}
+
+pub(crate) fn told(lie: Lie, round: u32, to: u32) -> Packet {
+    match lie {
+        Lie::Trial => by_trial(round, to),
+        Lie::Silence => nothing(),
+        Lie::Faces => two_faced(round, to),
+        Lie::King => by_king(round, to),
+        Lie::Void => void(),
+    }
+}

@@ -1,0 +1,98 @@
+// Frames on their way, and the tray that brings them, laid out as document 01, "Trays", has it.
+ghost use Prim.Native.Nat.{_+_, _≤_, _<_};
+
+// A frame on its way: the `len` first bytes. Sender 0, which is no controller's number, stands for no frame.
+pub(crate) struct Packet {
+    pub sender: u32,
+    pub len: usize,
+    pub bytes: [u8; 264],
+}
+
+// A tray under way: the directory has its place, and the frames put so far end at `len`. Three frames fit: 8 + 3 * 8 + 3 * 264 bytes.
+pub(crate) struct Tray {
+    pub len: usize,
+    pub bytes: [u8; 824],
+}
+
+pub(crate) fn least(a: usize, b: usize) -> usize
+    ensures { λ r. ⌜ (r ≤ a) × (r ≤ b) ⌝ }
+{
+    if a < b { a } else { b }
+}
+
+fn low_byte(x: u32) -> u8 {
+    (x % 256) as u8
+}
+
+// Stores the two low bytes of a number.
+fn put_half(bytes: &mut [u8; 824], at: usize, x: u32)
+    requires { ⌜ at + 2 ≤ 824 ⌝ }
+{
+    bytes[at] = low_byte(x / 256);
+    bytes[at + 1] = low_byte(x);
+}
+
+fn put_word(bytes: &mut [u8; 824], at: usize, x: u32)
+    requires { ⌜ at + 4 ≤ 824 ⌝ }
+{
+    put_half(bytes, at, x / 65536);
+    put_half(bytes, at + 2, x);
+}
+
+fn put_bytes(bytes: &mut [u8; 824], at: usize, frame: &[u8; 264], len: usize)
+    requires { ⌜ (len ≤ 264) × (at + len ≤ 824) ⌝ }
+{
+    let mut i = 0;
+    while i < len {
+        bytes[at + i] = frame[i];
+        i += 1;
+    }
+}
+
+// A tray of a round with room for a directory of `entries`.
+fn empty_tray(round: u32, entries: u32) -> Tray
+    requires { ⌜ entries ≤ 3 ⌝ }
+    ensures { λ r. ⌜ r .len ≤ 32 ⌝ }
+{
+    let mut bytes = [0; 824];
+    put_word(&mut bytes, 0, round);
+    put_half(&mut bytes, 4, entries);
+    Tray {
+        len: 8 + 8 * entries as usize,
+        bytes,
+    }
+}
+
+// The tray with one frame more, as the entry at `place`. No frame is longer than the 264 bytes that the cut leaves.
+fn with_packet(tray: Tray, place: usize, packet: Packet) -> Tray
+    requires { ⌜ (place < 3) × (tray .len + 264 ≤ 824) ⌝ }
+    ensures { λ r. ⌜ r .len ≤ tray .len + 264 ⌝ }
+{
+    let offset = tray.len;
+    let len = least(packet.len, 264);
+    let frame = packet.bytes;
+    let mut bytes = tray.bytes;
+    let entry = 8 + 8 * place;
+    put_word(&mut bytes, entry, packet.sender);
+    put_half(&mut bytes, entry + 4, offset as u32);
+    put_half(&mut bytes, entry + 6, len as u32);
+    put_bytes(&mut bytes, offset, &frame, len);
+    Tray {
+        len: offset + len,
+        bytes,
+    }
+}
+
+// The tray of a round: two frames, and a third where there is one.
+pub(crate) fn pack(round: u32, first: Packet, second: Packet, third: Packet) -> Tray
+    ensures { λ r. ⌜ r .len ≤ 824 ⌝ }
+{
+    if third.sender == 0 {
+        let one = with_packet(empty_tray(round, 2), 0, first);
+        with_packet(one, 1, second)
+    } else {
+        let one = with_packet(empty_tray(round, 3), 0, first);
+        let two = with_packet(one, 1, second);
+        with_packet(two, 2, third)
+    }
+}
