@@ -11,7 +11,7 @@
 --     placeBehind rows j i x   the place behind i where x is at place i of row j, else i
 --     countTo f n              how many of the numbers below n pass the test f
 --     LeastNext rows at n x    x is the least of the numbers at the places `at` of the first n rows, 0 where there is none
---     Passes rows at n x r     r has the places behind x in the rows where x is at its place, and how many those are
+--     Passes rows at n x r     r has the places behind x in the rows where x is at its place, how many those are, and the least number at the new places
 --     withEcho l x c n         l, with x behind it where c of n reach a third
 --     withCandidate l x c n    l, with x in it where c of n reach two thirds
 --     Addable l s c n          what adding a number to l finds, in the state s before the step
@@ -96,6 +96,7 @@ pub record LeastNext (rows : List (List ℕ)) (at : List ℕ) (n x : ℕ) : Type
 pub record Passes (rows : List (List ℕ)) (at : List ℕ) (n x : ℕ) (r : Passed) : Type 0 where
   pub count : r .count ≡ countTo (λ (j : ℕ). eqb (nextIn rows j (getD at j 0)) x) n
   pub behind : (j : ℕ) → j < n → getD (r .at) j 0 ≡ placeBehind rows j (getD at j 0) x
+  pub next : LeastNext rows (r .at) n (r .next)
 
 abbrev pub withEcho : List ℕ → ℕ → ℕ → ℕ → List ℕ
 withEcho l x c n = cond (third c n) (l ++ x ∷ []) l

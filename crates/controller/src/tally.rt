@@ -26,10 +26,11 @@ pub(crate) struct Lists {
     pub candidates: Numbers,
 }
 
-// How many rows had a number next, and how many places of each row are passed with it.
+// How many rows had a number next, how many places of each row are passed with it, and the least number that then stands next, 0 for none.
 struct Passed {
     count: usize,
     at: [usize; MAX_NUMBERS],
+    next: u32,
 }
 
 // Puts the list received under each heard number into its row, unused places 0.
@@ -113,17 +114,23 @@ fn pass(
     requires { ⌜ (len ≤ maxNumbers) × (0 < x) ⌝ }
     ensures { λ r. ⌜ Passes (now (rows .entry)) at len x r ⌝ }
 {
-    let mut next = at;
+    let mut places = at;
     let mut count = 0;
+    let mut next = 0;
     let mut j = 0;
     while j < len {
-        let place = next[j];
+        let place = places[j];
         let after = behind(rows, j, place, x);
-        next[j] = after;
+        places[j] = after;
         count += after - place;
+        next = lesser(next, next_in(rows, j, after));
         j += 1;
     }
-    Passed { count, at: next }
+    Passed {
+        count,
+        at: places,
+        next,
+    }
 }
 
 // The candidates, with `x` where its count reaches two thirds.
@@ -189,7 +196,7 @@ pub(crate) fn grow(state: State, tray: &[u8], heard: Numbers, firsts: Firsts) ->
         if fits {
             at = passed.at;
             last = x;
-            x = least(&rows, at, len);
+            x = passed.next;
         } else {
             return lists;
         }

@@ -2,7 +2,7 @@
 use Prim.Native.Nat.{ℕ, zero, suc, _+_, _-_, _≤_, _<_}
 use mathlib.Core.Bool.{Bool, true, false, cond, _&&_, true≢false, and-eq-true-iff}
 use mathlib.Core.List.{List, [], _∷_, _++_, List·Memᴰ·head, List·Memᴰ·tail, List·Memᴰ·cases-cons, List·Memᴰ·not-nil, Memᴰ·cast}
-use mathlib.Core.Logic.{inl, inr}
+use mathlib.Core.Logic.{_⊎_, inl, inr}
 use mathlib.Core.Option.{Option, some, none}
 use mathlib.Core.Path.{_≡_, refl, sym, ap, _∙_}
 use native.Mathlib.Decide.{ℕ-discrete, decLt}
@@ -23,7 +23,7 @@ use Rattle.controller.specs.Thirds.{third, twoThirds}
 use Rattle.controller.specs.State.{View, view, soundList, sound}
 use Rattle.controller.specs.Received.{heardAfter, received, listIn}
 use Rattle.controller.specs.Rotation.{tally, echoed, candidatesAfter}
-use Rattle.controller.specs.Storage.{nextIn, placeBehind, countTo, HoldsLists, LeastNext, Passes, echoesWith, candidatesWith, Addable, AddsNumber, GrowsLists}
+use Rattle.controller.specs.Storage.{nextIn, lesser, placeBehind, countTo, HoldsLists, LeastNext, Passes, echoesWith, candidatesWith, Addable, AddsNumber, GrowsLists}
 use Rattle.controller.specs.Laws.Lists.{true-or-false, mem-in, out-mem, mem-out, rising-gives}
 use Rattle.controller.specs.Laws.Thirds.{third-is, two-thirds-is}
 use Rattle.controller.specs.Laws.State.{SoundList, Sound, sound-list-test, sound-gives, sound-stored}
@@ -97,6 +97,51 @@ next-first rows j i l short holds =
       | yes h ↦ rw (lt-ltb i maxNumbers h, holds) (padded-at l (maxNumbers - length l) i ∙ sym first)
       | no h ↦ rw (le-ltb i maxNumbers (omega arith), first) (sym (List·getD-eq-default l 0 {n = i} (omega arith)))
     ]
+
+-- ---- the least of the numbers next in the rows
+
+record Lesser (x y z : ℕ) : Type 0 where
+  one : (z ≡ x) ⊎ (z ≡ y)
+  left : 0 < x → (0 < z) × (z ≤ x)
+  right : 0 < y → (0 < z) × (z ≤ y)
+
+lesser-is : (x y : ℕ) → Lesser x y (lesser x y)
+lesser-is x y = elim (ℕ-discrete y 0) [
+  | yes e ↦ rw (eq-eqb y 0 e) record { one = inl refl; left = λ p. omega arith; right = λ p. absurd (omega arith) }
+  | no d ↦ elim (ℕ-discrete x 0) [
+    | yes e ↦ rw (ne-eqb y 0 d, eq-eqb x 0 e) record { one = inr refl; left = λ p. absurd (omega arith); right = λ p. omega arith }
+    | no f ↦ elim (decLt y x) [
+      | yes l ↦ rw (ne-eqb y 0 d, ne-eqb x 0 f, lt-ltb y x l) record { one = inr refl; left = λ p. omega arith; right = λ p. omega arith }
+      | no l ↦ rw (ne-eqb y 0 d, ne-eqb x 0 f, le-ltb y x (omega arith)) record { one = inl refl; left = λ p. omega arith; right = λ p. omega arith }
+    ]
+  ]
+]
+
+pub least-none : (rows : List (List ℕ)) (at : List ℕ) → LeastNext rows at 0 0
+least-none rows at = record { there = λ p. absurd (omega arith); least = λ j l. absurd (omega arith) }
+
+pub least-more : (rows : List (List ℕ)) (at : List ℕ) (j x y z : ℕ) → LeastNext rows at j x → y ≡ nextIn rows j (getD at j 0) → z ≡ lesser x y → LeastNext rows at (j + 1) z
+least-more rows at j x y z h next e =
+    let m : Lesser x y z = rw e (lesser-is x y) in
+    record {
+      there =
+          λ p. elim (m .one) [
+            | inl f ↦ let t = h .there (omega arith) in (t .0, omega (arith, t .1), t .2 ∙ sym f)
+            | inr f ↦ (j, omega arith, sym next ∙ sym f)
+          ];
+      least =
+          λ k l p. elim (ℕ-discrete k j) [
+            | yes f ↦ rw (f, ← next) (m .right (rw (f, ← next) at p))
+            | no d ↦ let q = h .least k (omega arith) p in let r = m .left (q .0) in (r .0, omega (arith, q .1, r .1))
+          ];
+    }
+
+-- places that agree in these rows
+pub least-same : (rows : List (List ℕ)) (at to : List ℕ) (n x : ℕ) → ((j : ℕ) → j < n → getD to j 0 ≡ getD at j 0) → LeastNext rows at n x → LeastNext rows to n x
+least-same rows at to n x same h = record {
+  there = λ p. let t = h .there p in (t .0, t .1, rw (same (t .0) (t .1)) (t .2));
+  least = λ j l. rw (same j l) (h .least j l);
+}
 
 -- ---- what is left of a list once all numbers up to the last one are passed
 

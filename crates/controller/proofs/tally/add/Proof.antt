@@ -5,11 +5,10 @@ use mathlib.Core.List.{[], _∷_, _++_}
 use mathlib.Core.Logic.{inl, inr}
 use mathlib.Core.Path.{_≡_, refl, sym, _∙_}
 use native.Mathlib.Omega.{arith}
+use borrow.Author.Needs.{needs}
 use borrow.Author.Tests.{le-leb, lt-leb}
 use lib.Dec.{leb}
 use lib.ListN.{length, length-take}
-use Rattle.wire.specs.Limits.{maxNumbers}
-use Rattle.wire.specs.Numbers.{listed}
 use Rattle.controller.specs.Laws.Lists.{true-or-false}
 use Rattle.controller.specs.Laws.State.{sound-list-gives}
 use Rattle.controller.specs.Laws.Storage.{grown-test, grown-list}
@@ -20,7 +19,8 @@ use Rattle.controller.specs.Thirds.{third, twoThirds}
 use Rattle.controller.specs.declared.lists.Grown.{Grown}
 use Rattle.controller.specs.declared.state.State.{State}
 use Rattle.controller.specs.declared.tally.Lists.{Lists}
-use borrow.Author.Needs.{needs}
+use Rattle.wire.specs.Limits.{maxNumbers}
+use Rattle.wire.specs.Numbers.{listed}
 use Rattle.controller.proofs.tally.add.Statement.{statement}
 use Rattle.controller.proofs.tally.add.Tie as tie
 

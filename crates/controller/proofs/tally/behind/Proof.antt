@@ -4,11 +4,11 @@ use mathlib.Core.List.{List}
 use mathlib.Core.Path.{_≡_, sym, _∙_}
 use native.Mathlib.Decide.{decLt}
 use native.Mathlib.Omega.{arith}
-use denote.Ref.{now}
-use borrow.Author.Tests.{le-ltb, eq-eqb, ne-eqb}
-use Rattle.wire.specs.Limits.{maxNumbers}
-use Rattle.controller.specs.Storage.{nextIn}
 use borrow.Author.Needs.{needs}
+use borrow.Author.Tests.{le-ltb, eq-eqb, ne-eqb}
+use denote.Ref.{now}
+use Rattle.controller.specs.Storage.{nextIn}
+use Rattle.wire.specs.Limits.{maxNumbers}
 use Rattle.controller.proofs.tally.behind.Statement.{statement}
 use Rattle.controller.proofs.tally.behind.Tie as tie
 

@@ -5,20 +5,20 @@ use mathlib.Core.Option.{Option, some, none}
 use mathlib.Core.Path.{_≡_, refl, _∙_}
 use native.Mathlib.Decide.{ℕ-discrete}
 use native.Mathlib.Omega.{arith}
+use borrow.Author.Needs.{needs}
 use denote.Ref.{now}
 use lib.ListN.{length, getD, set, length-set}
 use lib.Seq.{getD-set-same, getD-set-other}
+use Rattle.controller.specs.Laws.Ready.{ready-size, ready-few, ready-listed}
+use Rattle.controller.specs.Laws.Tally.{listAt}
+use Rattle.controller.specs.Received.{heardAfter, received, listIn}
+use Rattle.controller.specs.State.{View, view}
 use Rattle.wire.specs.Frame.{Content, readStored}
 use Rattle.wire.specs.Limits.{maxNumbers}
 use Rattle.wire.specs.Numbers.{stored, listed}
 use Rattle.wire.specs.Tray.{Entry, entries}
 use Rattle.wire.specs.declared.frame.FrameRead.{FrameRead}
 use Rattle.wire.specs.declared.frame.Numbers.{Numbers}
-use Rattle.controller.specs.State.{View, view}
-use Rattle.controller.specs.Laws.Ready.{ready-size, ready-few, ready-listed}
-use Rattle.controller.specs.Laws.Tally.{listAt}
-use Rattle.controller.specs.Received.{heardAfter, received, listIn}
-use borrow.Author.Needs.{needs}
 use Rattle.controller.proofs.tally.fill.Statement.{statement}
 use Rattle.controller.proofs.tally.fill.Tie as tie
 

@@ -6,7 +6,6 @@ use borrow.Author.Needs.{needs}
 use denote.Ref.{now}
 use Rattle.controller.specs.Laws.Ready.{ready-size, ready-few}
 use Rattle.controller.specs.Laws.Tally.{Going, passes-few, zeros-at, going-start, going-adds, going-turn, going-over, going-end}
-use borrow.Author.Needs.{needs}
 use Rattle.controller.proofs.tally.grow.Statement.{statement}
 use Rattle.controller.proofs.tally.grow.Tie as tie
 
@@ -45,23 +44,20 @@ add-requires c κs =
     going-adds s b rows (v .lists) (v .at) (v .last) (v .x) (c .pass .result .count) (c .before .before .before .before .before .before .before .before .before .before .before .args .heard .len) (c .before .before .before .before .before .before .before .before .before .before .before .pre .sound) (v .inv .0)
     (omega (arith, passes-few (c .pass .ensures), ready-few (c .before .before .before .before .before .before .before .before .before .before .before .pre))) (ready-few (c .before .before .before .before .before .before .before .before .before .before .before .pre))
 
-least-requires-2 : tie.Need-least-requires-2 Inv-loop μ-loop
-least-requires-2 c κs = ready-few (c .before .before .before .before .before .before .before .before .before .before .before .before .before .before .before .pre)
-
 loop-less : tie.Need-loop-less Inv-loop μ-loop
-loop-less c = omega (arith, c .before .before .before .before .before .before .before .loop-test .taken, c .before .before .before .before .before .before .before .before .loop .inv .1)
+loop-less c = omega (arith, c .before .before .before .before .before .loop-test .taken, c .before .before .before .before .before .before .loop .inv .1)
 
 loop-again : tie.Need-loop-again Inv-loop μ-loop
 loop-again c =
-    let s = c .before .before .before .before .before .before .before .before .before .before .before .before .before .before .before .before .args .state in
-    let b = now (c .before .before .before .before .before .before .before .before .before .before .before .before .before .before .before .before .args .tray) in
-    let rows = c .before .before .before .before .before .before .before .before .before .before .before .before .before .fill .last .1 .1 .1 .1 .0 in
-    let v = c .before .before .before .before .before .before .before .before .loop in
-    let pre = c .before .before .before .before .before .before .before .before .before .before .before .before .before .before .before .before .pre in (
-      going-turn s b rows (v .lists) (v .at) (v .last) (v .x) (c .before .before .before .before .before .before .before .before .before .before .before .before .before .before .before .before .args .heard .len) (c .before .before .before .before .before .pass .result) (c .before .before .before .before .add .result)
-          (pre .sound) (ready-size pre) (c .before .before .before .before .before .before .before .before .before .before .before .before .before .fill .ensures) (v .inv .0) (c .before .before .before .before .before .before .before .loop-test .taken) (c .before .before .before .before .before .pass .ensures) (c .before .before .before .before .add .ensures)
-          (c .least2 .result) (c .before .before .before .if1 .taken) (c .least2 .ensures),
-      c .least2 .ok,
+    let s = c .before .before .before .before .before .before .before .before .before .before .before .before .before .before .args .state in
+    let b = now (c .before .before .before .before .before .before .before .before .before .before .before .before .before .before .args .tray) in
+    let rows = c .before .before .before .before .before .before .before .before .before .before .before .fill .last .1 .1 .1 .1 .0 in
+    let v = c .before .before .before .before .before .before .loop in
+    let pre = c .before .before .before .before .before .before .before .before .before .before .before .before .before .before .pre in (
+      going-turn s b rows (v .lists) (v .at) (v .last) (v .x) (c .before .before .before .before .before .before .before .before .before .before .before .before .before .before .args .heard .len) (c .before .before .before .pass .result) (c .before .before .add .result)
+          (pre .sound) (ready-size pre) (c .before .before .before .before .before .before .before .before .before .before .before .fill .ensures) (v .inv .0) (c .before .before .before .before .before .loop-test .taken) (c .before .before .before .pass .ensures) (c .before .before .add .ensures)
+          (c .before .before .before .pass .result .next) (c .before .if1 .taken) (c .before .before .before .pass .ensures .next),
+      search needs,
     )
 
 returns : tie.Need-returns Inv-loop μ-loop
@@ -94,7 +90,6 @@ grow-spec =
     loop-holds
     pass-requires
     add-requires
-    least-requires-2
     loop-less
     loop-again
     returns

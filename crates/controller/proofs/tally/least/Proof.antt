@@ -1,52 +1,12 @@
 -- `controller::tally::least` meets its contract: the least of the numbers next in the rows gone through, and the next row's, is the least of one row more.
-use Prim.Native.Nat.{ℕ, _≤_, _<_, _+_, _-_}
-use mathlib.Core.List.{List}
-use mathlib.Core.Logic.{_⊎_, inl, inr}
-use mathlib.Core.Path.{_≡_, refl, sym, _∙_}
-use native.Mathlib.Decide.{ℕ-discrete, decLt}
+use Prim.Native.Nat.{_≤_, _-_}
+use mathlib.Core.Path.{_≡_}
 use native.Mathlib.Omega.{arith}
-use borrow.Author.Tests.{lt-ltb, le-ltb, eq-eqb, ne-eqb}
-use lib.ListN.{getD}
-use Rattle.controller.specs.Storage.{nextIn, lesser, LeastNext}
 use borrow.Author.Needs.{needs}
+use Rattle.controller.specs.Laws.Tally.{least-none, least-more}
+use Rattle.controller.specs.Storage.{lesser, LeastNext}
 use Rattle.controller.proofs.tally.least.Statement.{statement}
 use Rattle.controller.proofs.tally.least.Tie as tie
-
-record Lesser (x y z : ℕ) : Type 0 where
-  one : (z ≡ x) ⊎ (z ≡ y)
-  left : 0 < x → (0 < z) × (z ≤ x)
-  right : 0 < y → (0 < z) × (z ≤ y)
-
-lesser-is : (x y : ℕ) → Lesser x y (lesser x y)
-lesser-is x y = elim (ℕ-discrete y 0) [
-  | yes e ↦ rw (eq-eqb y 0 e) record { one = inl refl; left = λ p. omega arith; right = λ p. absurd (omega arith) }
-  | no d ↦ elim (ℕ-discrete x 0) [
-    | yes e ↦ rw (ne-eqb y 0 d, eq-eqb x 0 e) record { one = inr refl; left = λ p. absurd (omega arith); right = λ p. omega arith }
-    | no f ↦ elim (decLt y x) [
-      | yes l ↦ rw (ne-eqb y 0 d, ne-eqb x 0 f, lt-ltb y x l) record { one = inr refl; left = λ p. omega arith; right = λ p. omega arith }
-      | no l ↦ rw (ne-eqb y 0 d, ne-eqb x 0 f, le-ltb y x (omega arith)) record { one = inl refl; left = λ p. omega arith; right = λ p. omega arith }
-    ]
-  ]
-]
-
-none : (rows : List (List ℕ)) (at : List ℕ) → LeastNext rows at 0 0
-none rows at = record { there = λ p. absurd (omega arith); least = λ j l. absurd (omega arith) }
-
-more : (rows : List (List ℕ)) (at : List ℕ) (j x y z : ℕ) → LeastNext rows at j x → y ≡ nextIn rows j (getD at j 0) → z ≡ lesser x y → LeastNext rows at (j + 1) z
-more rows at j x y z h next e =
-    let m : Lesser x y z = rw e (lesser-is x y) in
-    record {
-      there =
-          λ p. elim (m .one) [
-            | inl f ↦ let t = h .there (omega arith) in (t .0, omega (arith, t .1), t .2 ∙ sym f)
-            | inr f ↦ (j, omega arith, sym next ∙ sym f)
-          ];
-      least =
-          λ k l p. elim (ℕ-discrete k j) [
-            | yes f ↦ rw (f, ← next) (m .right (rw (f, ← next) at p))
-            | no d ↦ let q = h .least k (omega arith) p in let r = m .left (q .0) in (r .0, omega (arith, q .1, r .1))
-          ];
-    }
 
 abbrev Inv-loop : tie.InvT-loop
 Inv-loop rows len at x₀ j₀ x j = (j ≤ len) × LeastNext rows at j x
@@ -55,7 +15,7 @@ abbrev μ-loop : tie.MeasureT-loop
 μ-loop rows len at x₀ j₀ x j = len - j
 
 loop-holds : tie.Need-loop-holds Inv-loop μ-loop
-loop-holds c = (search needs, none _ _)
+loop-holds c = (search needs, least-none _ _)
 
 mul-next-in : tie.Need-mul-next-in Inv-loop μ-loop
 mul-next-in c = search needs
@@ -76,7 +36,7 @@ loop-less : tie.Need-loop-less Inv-loop μ-loop
 loop-less c = search needs
 
 loop-again : tie.Need-loop-again Inv-loop μ-loop
-loop-again c = (search needs, more _ _ _ _ _ _ (c .before .before .before .loop .inv .1) (c .before .next-in .ensures) (c .lesser .ensures))
+loop-again c = (search needs, least-more _ _ _ _ _ _ (c .before .before .before .loop .inv .1) (c .before .next-in .ensures) (c .lesser .ensures))
 
 returns : tie.Need-returns Inv-loop μ-loop
 returns c = let e : c .before .loop .j ≡ c .before .before .args .len = omega arith in rw e at (c .before .loop .inv .1)

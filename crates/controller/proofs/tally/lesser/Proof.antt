@@ -4,19 +4,15 @@ use borrow.Author.Tests.{lt-ltb, le-ltb, eq-eqb, ne-eqb}
 use Rattle.controller.proofs.tally.lesser.Statement.{statement}
 use Rattle.controller.proofs.tally.lesser.Tie as tie
 
--- src/tally.rt:54:1
 returns : tie.Need-returns
 returns c = search (needs, eq-eqb)
 
--- src/tally.rt:54:1
 returns-2 : tie.Need-returns-2
 returns-2 c = search (needs, eq-eqb, ne-eqb)
 
--- src/tally.rt:54:1
 returns-3 : tie.Need-returns-3
 returns-3 c = search (needs, ne-eqb, lt-ltb)
 
--- src/tally.rt:54:1
 returns-4 : tie.Need-returns-4
 returns-4 c = search (needs, ne-eqb, le-ltb)
 

@@ -4,27 +4,21 @@ use borrow.Author.Tests.{lt-ltb, le-ltb}
 use Rattle.controller.proofs.tally.next_in.Statement.{statement}
 use Rattle.controller.proofs.tally.next_in.Tie as tie
 
--- src/tally.rt:50:27
 mul-result : tie.Need-mul-result
 mul-result c = search needs
 
--- src/tally.rt:50:27
 mul-result-2 : tie.Need-mul-result-2
 mul-result-2 c = search needs
 
--- src/tally.rt:50:27
 index-1-result : tie.Need-index-1-result
 index-1-result c = search needs
 
--- src/tally.rt:50:27
 index-2-result : tie.Need-index-2-result
 index-2-result c = search needs
 
--- src/tally.rt:46:1
 returns : tie.Need-returns
 returns c = search (needs, lt-ltb)
 
--- src/tally.rt:46:1
 returns-2 : tie.Need-returns-2
 returns-2 c = search (needs, le-ltb)
 
