@@ -4,7 +4,6 @@
 --     opened i x n s           the places s of a list of n numbers with x put in at place i: the numbers from there on stand one place further
 --     grown l n                the stored form of l where it has at most 64 numbers; else the list n, and that it did not fit
 --     Ready s b n f            what a step finds: a sound state s, a tray b with no sender 0, those heard after it as n, and in f the first entry of each of them
---     Ready s b n f            what a step finds: a sound state s, those heard after the tray b as n, and in f the first entry of each of them
 --     HoldsLists s b rows      row j of rows has the list received under the number heard at place j, in its stored form
 --     nextIn rows j i          the number at place i of row j, 0 for none
 --     lesser x y               the lesser of two numbers, 0 standing for none

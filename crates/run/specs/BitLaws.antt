@@ -1,4 +1,4 @@
--- The laws of a bit instance: persistence, agreement, unanimity, validity, stability.
+-- The laws of a bit instance: persistence, agreement, unanimity, validity.
 -- Serves document 01's "The run of demand 3". Before anybody has decided a common correct king makes all bits equal. Equal bits stay equal, also when decided
 -- ones have gone quiet. So every decision is that bit.
 use Prim.Native.Nat.{ℕ, zero, suc, _-_, _≤_, _<_}
@@ -215,7 +215,3 @@ module _ (R : Rotation) (K : RotationRules R) (B : BitInstance) (L : BitRules R 
         | inl found ↦ found
         | inr other ↦ absurd (omega (arith, unanimity {b = 1 - b} (λ k j. omega (arith, brought (watch k j), other k j)) i h d))
       ]
-
-  pub stability : {p s : ℕ} (t : ℕ) → In p observers → s ≤ t → t ≤ suc (size R) → decided p s ≡ true → decision p t ≡ decision p s
-  stability {p} {s} t i h k d = le-ind (λ t. t ≤ suc (size R) → decision p t ≡ decision p s) (λ k. refl)
-      (λ u l before k. decision-held i (omega arith) (decided-later R K u i l (omega arith) d) ∙ before (omega arith)) t h k

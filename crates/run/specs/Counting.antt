@@ -12,6 +12,7 @@ use native.Mathlib.Omega.{arith}
 use native.Mathlib.Decide.{decLe}
 use lib.ListN.{length, length-append}
 use Rattle.controller.specs.Lists.{In, Inside, NoRepeats, mem, countIf}
+use Rattle.controller.specs.Laws.Thirds as thirds
 use Rattle.controller.specs.Laws.Lists.{mem-in, no-repeats-left, inside-length, count-inside, count-split, count-all, count-some}
 
 abbrev pub Third : ℕ → ℕ → Type 0
@@ -42,7 +43,7 @@ third-decidable c h = decLe _ _
 -- ---- over plain numbers
 
 pub two-thirds-third : (c h : ℕ) → TwoThirds c h → Third c h
-two-thirds-third c h two = omega arith
+two-thirds-third c h two = thirds.third-is c h .0 (thirds.two-thirds-third c h (thirds.two-thirds-is c h .1 two))
 
 module _ {g f : ℕ} (few : Few f g) where
   -- what reaches a third, some correct one has sent
@@ -58,8 +59,8 @@ module _ {g f : ℕ} (few : Few f g) where
   all-two-thirds bounds = omega arith
 
   -- two things that no correct one sends together do not both reach two thirds, even at two receivers
-  pub two-thirds-exclude : {h i a b c d : ℕ} → a + b ≤ g → Bounds g f h a c → Bounds g f i b d → TwoThirds c h → TwoThirds d i → ⊥
-  two-thirds-exclude apart here there two other = omega arith
+  pub two-thirds-not-both : {h i a b c d : ℕ} → a + b ≤ g → Bounds g f h a c → Bounds g f i b d → TwoThirds c h → TwoThirds d i → ⊥
+  two-thirds-not-both apart here there two other = omega arith
 
 -- ---- over lists of those heard: the same four, for what a receiver has from each sender
 
@@ -101,7 +102,7 @@ module _ {correct faulty : List ℕ} (apart : NoRepeats (correct ++ faulty)) whe
         let once = no-repeats-left correct faulty apart in
         let disjoint = count-inside here (λ s. not (there s)) correct once (λ s i. i) (λ s i t. ap not (exclude s i t)) in
         let sum : countIf here correct + countIf there correct ≤ length correct = omega (arith, count-split there correct) in
-        two-thirds-exclude few sum (count-bounds here here h (λ s i. refl)) (count-bounds there there k (λ s i. refl)) two other
+        two-thirds-not-both few sum (count-bounds here here h (λ s i. refl)) (count-bounds there there k (λ s i. refl)) two other
 
     -- a number in a third of the lists is in some correct one's list
     pub third-inside : (lists : ℕ → List ℕ) {heard all : List ℕ} → Heard correct faulty heard → ((s : ℕ) → In s correct → Inside (lists s) all)

@@ -291,9 +291,6 @@ body-gives s t h =
     let e₁ = and-eq-true-iff (bitFits (kindOf t) (getD s bitAt 0)) (leb (countOf s) (maxCount (kindOf t))) .0 (e₂ .0) in
     record { bit = e₁ .0; count = leb-true _ _ (e₁ .1); rise = e₂ .1 }
 
-pub read-round : (s : List ℕ) (t : ℕ) (c : Content) → content s t ≡ some c → c .round ≡ t
-read-round s t c e = ap (λ (d : Content). d .round) (sym (content-gives s t c e .content))
-
 pub writes-read : (s : List ℕ) (t : ℕ) (c : Content) → Below 256 s → content s t ≡ some c → frameBytes c ≡ s
 unfolding frameBytes
 writes-read s t c b e =

@@ -2,6 +2,7 @@
 use Prim.Native.Nat.{ℕ, _≤_, _<_}
 use mathlib.Core.Bool.{Bool, true, false, not, cond, _&&_}
 use mathlib.Core.Path.{_≡_, refl, ap, _∙_}
+use native.Mathlib.Omega.{arith}
 use borrow.Author.Needs.{needs}
 use borrow.Author.Tests.{le-leb, lt-leb, eq-eqb, ne-eqb}
 use lib.Dec.{eqb, leb}
@@ -71,7 +72,7 @@ first-state-requires : tie.Need-first-state-requires
 first-state-requires c κs = search needs
 
 send-requires : tie.Need-send-requires
-send-requires c κs = (rw (c .before .first-state .ensures) (sound-test _ (start-sound _ _ (c .before .before .before .before .if1 .left) (c .before .before .before .if2 .left))), c .before .before .if3 .left)
+send-requires c κs = (rw (c .before .first-state .ensures) (sound-test _ (start-sound _ _ (c .before .before .before .before .if1 .left) (omega (arith, c .before .before .before .if2 .left)))), c .before .before .if3 .left)
 
 same-length : tie.Need-same-length
 same-length c = search needs
