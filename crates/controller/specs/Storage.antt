@@ -4,6 +4,9 @@
 --     opened i x n s           the places s of a list of n numbers with x put in at place i: the numbers from there on stand one place further
 --     grown l n                the stored form of l where it has at most 64 numbers; else the list n, and that it did not fit
 --     Ready s b n f            what a step finds: a sound state s, a tray b with no sender 0, those heard after it as n, and in f the first entry of each of them
+--     saidUnder o t d b x i    what the frame received under x says, with its first entry i in the tray b, where o is the own number, t the round and d said
+--     saysRead, opinionRead    `says` and `opinionIn` of a frame that was read without its list
+--     CountsBits k v es r      r has how many of those heard sent each bit in a frame of kind k
 --     HoldsLists s b rows      row j of rows has the list received under the number heard at place j, in its stored form
 --     nextIn rows j i          the number at place i of row j, 0 for none
 --     lesser x y               the lesser of two numbers, 0 standing for none
@@ -32,11 +35,14 @@ use lib.Seq.{slice}
 use Rattle.wire.specs.Limits.{maxNumbers, maxFrame, lastRound}
 use Rattle.wire.specs.Numbers.{stored, listed}
 use Rattle.wire.specs.Tray.{Entry, wellFormed, roundOf, entries, place, bytesAt, firstBytes}
+use Rattle.wire.specs.Frame.{kindOf, saidBy, kindSaid, bitSaid, readStored}
 use Rattle.wire.specs.declared.frame.Numbers.{Numbers}
+use Rattle.wire.specs.declared.frame.Read.{Read}
+use Rattle.wire.specs.declared.frame.Read.the-variants.{Valid, Void}
 use Rattle.controller.specs.Lists.{In, countIf, mem, insert}
 use Rattle.controller.specs.State.{View, view, image, sound, undecided, soundList}
 use Rattle.controller.specs.Thirds.{third, twoThirds}
-use Rattle.controller.specs.Received.{senders, heardAfter, received, listIn}
+use Rattle.controller.specs.Received.{senders, heardAfter, readIn, received, says, listIn, count}
 use Rattle.controller.specs.Rotation.{echoed, candidatesAfter}
 use Rattle.controller.specs.Bit.{bitAdopted, strongAfter, opinion}
 use Rattle.controller.specs.Rules.{next}
@@ -44,6 +50,7 @@ use Rattle.controller.specs.Refusals.{listsFit}
 use Rattle.controller.specs.declared.state.State.{State}
 use Rattle.controller.specs.declared.lists.Grown.{Grown}
 use Rattle.controller.specs.declared.received.Firsts.{Firsts}
+use Rattle.controller.specs.declared.received.Counts.{Counts}
 use Rattle.controller.specs.declared.tally.Lists.{Lists}
 use Rattle.controller.specs.declared.tally.Passed.{Passed}
 use Rattle.controller.specs.declared.bit.Turn.{Turn}
@@ -69,6 +76,22 @@ pub record Ready (s : State) (b : List ℕ) (n : Numbers) (f : Firsts) : Type 0 
   pub heard : n ≡ stored (heardAfter (view s) (entries b))
   pub firsts : (j : ℕ) → j < length (heardAfter (view s) (entries b))
       → bytesAt b (place b (getD (f .at) j 0)) ≡ firstBytes (getD (heardAfter (view s) (entries b)) j 0) (entries b)
+
+abbrev pub saidUnder : ℕ → ℕ → ℕ → List ℕ → ℕ → ℕ → Read
+saidUnder own round said b x i =
+    cond (eqb x own) (Valid (record { round = round; said = saidBy (kindOf round) said })) ((readStored (readIn round (bytesAt b (place b i)))) .read)
+
+abbrev pub saysRead : ℕ → ℕ → Read → Bool
+saysRead k b Void = false
+saysRead k b (Valid f) = eqb (kindSaid (f .said)) k && eqb (bitSaid (f .said)) b
+
+abbrev pub opinionRead : Read → ℕ
+opinionRead Void = 2
+opinionRead (Valid f) = cond (eqb (kindSaid (f .said)) 5) (bitSaid (f .said)) 2
+
+pub record CountsBits (k : ℕ) (v : View) (es : List Entry) (r : Counts) : Type 0 where
+  pub zeros : r .zeros ≡ count (says k 0) v es
+  pub ones : r .ones ≡ count (says k 1) v es
 
 abbrev pub HoldsLists : State → List ℕ → List (List ℕ) → Type 0
 HoldsLists s b rows =

@@ -12,9 +12,9 @@ ghost use Rattle.controller.specs.Storage.{Ready, adoptedFrom, TurnsBit}
 use crate::lists::has;
 use crate::lists::place_of;
 use crate::received::Firsts;
-use crate::received::count_says;
-use crate::received::frame_opinion;
-use crate::received::received;
+use crate::received::count_bits;
+use crate::received::read_opinion;
+use crate::received::received_said;
 use crate::state::State;
 use wire::frame::Numbers;
 
@@ -25,8 +25,16 @@ fn king_opinion(state: State, tray: &[u8], heard: Numbers, firsts: Firsts) -> u8
 {
     let king = state.king;
     if has(heard, king) {
-        let frame = received(state, tray, heard, firsts, place_of(heard, king));
-        frame_opinion(frame)
+        let j = place_of(heard, king);
+        let read = received_said(
+            state.own,
+            state.round,
+            state.said,
+            tray,
+            heard.at[j],
+            firsts.at[j],
+        );
+        read_opinion(read)
     } else {
         2
     }
@@ -57,9 +65,10 @@ pub(crate) fn proposal(state: State, tray: &[u8], heard: Numbers, firsts: Firsts
     ensures { λ r. ⌜ r ≡ proposal (view state) (entries (now (tray .entry))) ⌝ }
 {
     let h = heard.len;
-    if 2 * h <= 3 * count_says(state, tray, heard, firsts, 3, 0) {
+    let counts = count_bits(state, tray, heard, firsts, 3);
+    if 2 * h <= 3 * counts.zeros {
         0
-    } else if 2 * h <= 3 * count_says(state, tray, heard, firsts, 3, 1) {
+    } else if 2 * h <= 3 * counts.ones {
         1
     } else {
         2
@@ -114,8 +123,9 @@ pub(crate) fn spoken(state: State, tray: &[u8], heard: Numbers, firsts: Firsts) 
     ensures { λ r. ⌜ TurnsBit (view state) (entries (now (tray .entry))) r ⌝ }
 {
     let h = heard.len;
-    let zeros = count_says(state, tray, heard, firsts, 4, 0);
-    let ones = count_says(state, tray, heard, firsts, 4, 1);
+    let counts = count_bits(state, tray, heard, firsts, 4);
+    let zeros = counts.zeros;
+    let ones = counts.ones;
     let bit = adopted(state, zeros, ones, h);
     let said = opinion_of(state, bit);
     if bit == 0 {

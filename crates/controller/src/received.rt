@@ -1,17 +1,17 @@
 // What is received in a round: who is heard, and the frame under each heard number.
-ghost use mathlib.Core.Bool.{true};
+ghost use mathlib.Core.Bool.{true, cond};
 ghost use mathlib.Core.Option.{some};
 ghost use mathlib.Core.Path.{_≡_};
 ghost use Prim.Native.Nat.{ℕ, _<_};
 ghost use lib.ListN.{getD};
-ghost use Rattle.wire.specs.Frame.{readStored, readView};
+ghost use Rattle.wire.specs.Frame.{readStored};
 ghost use Rattle.wire.specs.Numbers.{listed};
 ghost use Rattle.wire.specs.Tray.{wellFormed, entries, place, bytesAt, firstBytes};
 ghost use Rattle.controller.specs.Lists.{In, insertAll};
 ghost use Rattle.controller.specs.State.{view, sound, soundList};
-ghost use Rattle.controller.specs.Received.{senders, readIn, received, frameOf, says, opinionIn, count};
+ghost use Rattle.controller.specs.Received.{senders, readIn, received, frameOf};
 ghost use Rattle.controller.specs.Refusals.{sendersFit};
-ghost use Rattle.controller.specs.Storage.{grown, Ready};
+ghost use Rattle.controller.specs.Storage.{grown, Ready, saidUnder, saysRead, opinionRead, CountsBits};
 use crate::lists::Grown;
 use crate::lists::has;
 use crate::lists::insert;
@@ -33,6 +33,7 @@ use wire::tray::Found;
 use wire::tray::entry_count;
 use wire::tray::entry_place;
 use wire::tray::entry_sender;
+use wire::tray::part_said;
 use wire::tray::read_part;
 
 // For each heard number its first entry in the directory; the entry count for one that has none.
@@ -153,11 +154,43 @@ pub(crate) fn received(
     }
 }
 
-// Whether a frame is of a kind and has a bit.
-pub(crate) fn frame_says(frame: FrameRead, kind: u8, bit: u8) -> bool
-    ensures { λ r. ⌜ r ≡ says kind bit (readView frame) ⌝ }
+// What the frame of an entry says, void where there is no such entry.
+fn entry_said(tray: &[u8], entry: usize, round: u32) -> Read
+    ensures { λ r. ⌜ r ≡ (readStored (readIn round (bytesAt (now (tray .entry)) (place (now (tray .entry)) entry)))) .read ⌝ }
 {
-    let read = frame.read;
+    let found = entry_place(tray, entry);
+    match found {
+        Found::At(offset, len) => part_said(tray, offset, len, round),
+        Found::Nothing => Read::Void,
+    }
+}
+
+// What the frame received under the number `x` says, if `entry` is its first entry. Numbers and a slice only: no struct is copied for each number.
+pub(crate) fn received_said(
+    own: u32,
+    round: u32,
+    said: u8,
+    tray: &[u8],
+    x: u32,
+    entry: usize,
+) -> Read
+    ensures { λ r. ⌜ r ≡ saidUnder own round said (now (tray .entry)) x entry ⌝ }
+{
+    if x == own {
+        let content = said_by(kind_of(round), said);
+        Read::Valid(Frame {
+            round,
+            said: content,
+        })
+    } else {
+        entry_said(tray, entry, round)
+    }
+}
+
+// Whether a frame is of a kind and has a bit.
+pub(crate) fn read_says(read: Read, kind: u8, bit: u8) -> bool
+    ensures { λ r. ⌜ r ≡ saysRead kind bit read ⌝ }
+{
     match read {
         Read::Valid(content) => {
             let said = content.said;
@@ -171,11 +204,17 @@ pub(crate) fn frame_says(frame: FrameRead, kind: u8, bit: u8) -> bool
     }
 }
 
-// The opinion that a frame carries, 2 where it carries none.
-pub(crate) fn frame_opinion(frame: FrameRead) -> u8
-    ensures { λ r. ⌜ r ≡ opinionIn (readView frame) ⌝ }
+// 1 where a frame is of a kind and has a bit, else 0.
+fn one_if(read: Read, kind: u8, bit: u8) -> usize
+    ensures { λ r. ⌜ r ≡ cond (saysRead kind bit read) 1 0 ⌝ }
 {
-    let read = frame.read;
+    if read_says(read, kind, bit) { 1 } else { 0 }
+}
+
+// The opinion that a frame carries, 2 where it carries none.
+pub(crate) fn read_opinion(read: Read) -> u8
+    ensures { λ r. ⌜ r ≡ opinionRead read ⌝ }
+{
     match read {
         Read::Valid(content) => {
             let said = content.said;
@@ -189,27 +228,39 @@ pub(crate) fn frame_opinion(frame: FrameRead) -> u8
     }
 }
 
-// How many of those heard sent a frame of a kind with a bit.
-pub(crate) fn count_says(
+// How many of those heard sent each of the two bits.
+pub(crate) struct Counts {
+    pub zeros: usize,
+    pub ones: usize,
+}
+
+// Counts the frames of a kind, bit by bit.
+pub(crate) fn count_bits(
     state: State,
     tray: &[u8],
     heard: Numbers,
     firsts: Firsts,
     kind: u8,
-    bit: u8,
-) -> usize
+) -> Counts
     requires { ⌜ Ready state (now tray) heard firsts ⌝ }
-    ensures { λ r. ⌜ r ≡ count (says kind bit) (view state) (entries (now (tray .entry))) ⌝ }
+    ensures { λ r. ⌜ CountsBits kind (view state) (entries (now (tray .entry))) r ⌝ }
 {
     let len = heard.len;
-    let mut total = 0;
+    let mut zeros = 0;
+    let mut ones = 0;
     let mut j = 0;
     while j < len {
-        let frame = received(state, tray, heard, firsts, j);
-        if frame_says(frame, kind, bit) {
-            total += 1;
-        }
+        let read = received_said(
+            state.own,
+            state.round,
+            state.said,
+            tray,
+            heard.at[j],
+            firsts.at[j],
+        );
+        zeros += one_if(read, kind, 0);
+        ones += one_if(read, kind, 1);
         j += 1;
     }
-    total
+    Counts { zeros, ones }
 }

@@ -11,8 +11,8 @@ ghost use Rattle.controller.specs.Storage.{Ready};
 use crate::lists::no_numbers;
 use crate::lists::push;
 use crate::received::Firsts;
-use crate::received::frame_says;
-use crate::received::received;
+use crate::received::read_says;
+use crate::received::received_said;
 use crate::state::State;
 use wire::frame::Numbers;
 
@@ -25,9 +25,10 @@ pub(crate) fn roster(state: State, tray: &[u8], heard: Numbers, firsts: Firsts) 
     let mut list = no_numbers();
     let mut j = 0;
     while j < len {
-        let frame = received(state, tray, heard, firsts, j);
-        if frame_says(frame, 1, 2) {
-            let more = push(list, heard.at[j]);
+        let x = heard.at[j];
+        let read = received_said(state.own, state.round, state.said, tray, x, firsts.at[j]);
+        if read_says(read, 1, 2) {
+            let more = push(list, x);
             list = more.list;
         }
         j += 1;

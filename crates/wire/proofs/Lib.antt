@@ -1,3 +1,4 @@
 -- What several proofs of the crate share.
+pub mod Rest
 pub mod Tests
 pub mod Stores

@@ -1,6 +1,6 @@
 // Frames: what a controller sends in a round. The layout is that of document 01, "Frames"; specs/Frame.antt says what each call answers.
 ghost use mathlib.Core.Path.{_≡_};
-ghost use mathlib.Core.Bool.{cond};
+ghost use mathlib.Core.Bool.{cond, _&&_};
 ghost use mathlib.Core.List.{[]};
 ghost use mathlib.Core.Option.{some, none};
 ghost use Prim.Native.Nat.{_+_, _*_, _≤_};
@@ -9,7 +9,7 @@ ghost use lib.Seq.{sets};
 ghost use Rattle.wire.specs.Limits.{frameHeader, numberWidth, maxNumbers};
 ghost use Rattle.wire.specs.Numbers.{rising, stored};
 ghost use Rattle.wire.specs.Words.{wordsAt, wordsBytes};
-ghost use Rattle.wire.specs.Frame.{kindOf, chosenBy, saidBy, bitFits, maxCount, countOf, contentOf, readStored, lengthFits, headFits, bodyFits, roundFits, FrameReads, bitChosen, kindSaid, bitSaid, chosenFits, saidFits, writable, headerBytes, FrameWrites};
+ghost use Rattle.wire.specs.Frame.{kindOf, chosenBy, saidBy, bitFits, maxCount, countOf, contentOf, readStored, lengthFits, headFits, bodyFits, roundFits, content, FrameReads, bitChosen, kindSaid, bitSaid, chosenFits, saidFits, writable, headerBytes, FrameWrites};
 use crate::limits::BIT_AT;
 use crate::limits::COUNT_AT;
 use crate::limits::FRAME_HEADER;
@@ -189,6 +189,24 @@ fn read_numbers(bytes: &[u8], count: usize) -> NumbersRead
     }
 }
 
+// Whether a frame's numbers rise strictly from above 0.
+fn numbers_rise(bytes: &[u8], count: usize) -> bool
+    requires { ⌜ length (now bytes) ≡ frameHeader + numberWidth * count ⌝ }
+    ensures { λ r. ⌜ r ≡ rising 0 (wordsAt (now (bytes .entry)) frameHeader count) ⌝ }
+{
+    let mut last = 0;
+    let mut i = 0;
+    while i < count {
+        let x = word(bytes, FRAME_HEADER + NUMBER_WIDTH * i);
+        if x <= last {
+            return false;
+        }
+        last = x;
+        i += 1;
+    }
+    true
+}
+
 fn length_fits(bytes: &[u8]) -> bool
     ensures { λ r. ⌜ r ≡ lengthFits (now (bytes .entry)) ⌝ }
 {
@@ -208,6 +226,40 @@ fn head_fits(bytes: &[u8], round: u32) -> bool
         if word(bytes, 0) == round {
             let kind = bytes[KIND_AT];
             kind == kind_of(round)
+        } else {
+            false
+        }
+    } else {
+        false
+    }
+}
+
+// Whether bytes whose length, round and kind fit are a frame.
+fn body_fits(bytes: &[u8], round: u32) -> bool
+    requires { ⌜ length (now bytes) ≡ frameHeader + numberWidth * countOf (now bytes) ⌝ }
+    ensures { λ r. ⌜ r ≡ bodyFits (now (bytes .entry)) round ⌝ }
+{
+    let kind = kind_of(round);
+    let bit = bytes[BIT_AT];
+    let count = half(bytes, COUNT_AT);
+    if bit_fits(kind, bit) {
+        if count <= max_count(kind) {
+            numbers_rise(bytes, count)
+        } else {
+            false
+        }
+    } else {
+        false
+    }
+}
+
+// Whether the bytes are a frame of a round, and not void.
+fn is_frame(bytes: &[u8], round: u32) -> bool
+    ensures { λ r. ⌜ r ≡ (lengthFits (now (bytes .entry)) && headFits (now (bytes .entry)) round && bodyFits (now (bytes .entry)) round) ⌝ }
+{
+    if length_fits(bytes) {
+        if head_fits(bytes, round) {
+            body_fits(bytes, round)
         } else {
             false
         }
@@ -260,6 +312,18 @@ pub fn read_frame(bytes: &[u8], round: u32) -> FrameRead
         }
     } else {
         void()
+    }
+}
+
+// What bytes say in a round, or void: `read_frame` without the list, for those who do not want it.
+pub fn read_said(bytes: &[u8], round: u32) -> Read
+    ensures { λ r. ⌜ r ≡ (readStored (content (now (bytes .entry)) round)) .read ⌝ }
+{
+    if is_frame(bytes, round) {
+        let said = said_by(kind_of(round), bytes[BIT_AT]);
+        Read::Valid(Frame { round, said })
+    } else {
+        Read::Void
     }
 }
 

@@ -1,16 +1,23 @@
 -- Laws of what a step finds: those heard, as a stored list, and the first entry of each of them.
-use Prim.Native.Nat.{ℕ, _≤_}
+use Prim.Native.Nat.{ℕ, _≤_, _<_}
+use mathlib.Core.Bool.{Bool, true, false, cond}
 use mathlib.Core.List.{List}
-use mathlib.Core.Path.{_≡_, sym, ap, _∙_}
-use lib.ListN.{length}
+use mathlib.Core.Option.{some}
+use mathlib.Core.Path.{_≡_, refl, sym, ap, _∙_}
+use native.Mathlib.Omega.{arith}
+use lib.Dec.{eqb}
+use lib.ListN.{length, getD}
+use lib.Seq.{getD-take}
+use Rattle.wire.specs.Frame.{kindOf, saidBy, readStored}
 use Rattle.wire.specs.Laws.Numbers.{listed-stored}
 use Rattle.wire.specs.Limits.{maxNumbers}
 use Rattle.wire.specs.Numbers.{listed}
-use Rattle.wire.specs.Tray.{entries}
+use Rattle.wire.specs.Tray.{entries, firstBytes}
 use Rattle.wire.specs.declared.frame.Numbers.{Numbers}
-use Rattle.controller.specs.Received.{heardAfter}
+use Rattle.wire.specs.declared.frame.Read.the-variants.{Valid}
+use Rattle.controller.specs.Received.{heardAfter, readIn, received, frameOf}
 use Rattle.controller.specs.State.{view}
-use Rattle.controller.specs.Storage.{Ready}
+use Rattle.controller.specs.Storage.{Ready, saidUnder}
 use Rattle.controller.specs.declared.received.Firsts.{Firsts}
 use Rattle.controller.specs.declared.state.State.{State}
 
@@ -26,3 +33,17 @@ module _ {s : State} {b : List ℕ} {n : Numbers} {f : Firsts} (ready : Ready s 
 
   pub ready-few : n .len ≤ maxNumbers
   ready-few = rw (ready .heard) (ready .short)
+
+  -- what the frame received under the number at place j says
+  pub ready-said : (j : ℕ) → j < n .len
+      → saidUnder (s .own) (s .round) (s .said) b (getD (n .at) j 0) (getD (f .at) j 0) ≡ (readStored (received (view s) (entries b) (getD (listed n) j 0))) .read
+  unfolding received frameOf
+  ready-said j h =
+      let copied : getD (listed n) j 0 ≡ getD (n .at) j 0 = getD-take (n .len) (n .at) j 0 h in
+      let first = ready .firsts j (omega (arith, h, ready-size)) in
+      rw (copied, first, sym (ap (λ (l : List ℕ). getD l j 0) ready-listed), copied) (pick (eqb (getD (n .at) j 0) (s .own)))
+    where
+      pick : (t : Bool) → cond t (Valid (record { round = s .round; said = saidBy (kindOf (s .round)) (s .said) })) ((readStored (readIn (s .round) (firstBytes (getD (n .at) j 0) (entries b)))) .read)
+          ≡ (readStored (cond t (some (frameOf (view s))) (readIn (s .round) (firstBytes (getD (n .at) j 0) (entries b))))) .read
+      pick true = refl
+      pick false = refl

@@ -10,15 +10,15 @@ use native.Mathlib.Decide.{ℕ-discrete}
 use native.Mathlib.Omega.{arith}
 use lib.Dec.{eqb, ltb}
 use lib.ListN.{length}
-use Rattle.wire.specs.Frame.{Content, content, kindOf, kindSaid, bitSaid, frameBytes, roundFits, writable, maxCount, readStored, readView}
-use Rattle.wire.specs.Laws.Frame.{view-stored, kind-range, said-kind, said-bit, said-allowed, writable-gives, reads-written, read-writable}
+use Rattle.wire.specs.Frame.{Content, content, kindOf, kindSaid, bitSaid, frameBytes, roundFits, writable, maxCount, readStored}
+use Rattle.wire.specs.Laws.Frame.{kind-range, said-kind, said-bit, said-allowed, writable-gives, reads-written, read-writable}
 use Rattle.wire.specs.Limits.{maxNumbers, lastRound}
 use Rattle.wire.specs.Numbers.{rising}
 use Rattle.wire.specs.Tray.{Entry, entryCount, sender, entriesFrom, entries, firstBytes}
-use Rattle.wire.specs.declared.frame.FrameRead.{FrameRead}
 use Rattle.controller.specs.Lists.{In, Rising}
 use Rattle.controller.specs.State.{View}
 use Rattle.controller.specs.Received.{frameOf, senders, heardAfter, readIn, received, says, opinionIn, listIn}
+use Rattle.controller.specs.Storage.{saysRead, opinionRead}
 use Rattle.controller.specs.Laws.Lists.{inside-length, insert-all-in, insert-all-rising, rising-gives, rising-test}
 use Rattle.controller.specs.Laws.State.{SoundList, Sound}
 
@@ -73,9 +73,14 @@ unheard-received v es h x out =
     let other : x ≢ v .own = λ e. out (heard-in v es .1 (inr (Memᴰ·cast e (h .hears-itself)))) in
     received-other v es x other ∙ rw (first-none x es (λ i. out (heard-in v es .1 (inl i))))
 
--- a frame in its stored form says what it says
-pub stored-says : (r : FrameRead) (o : Option Content) (k b : ℕ) → r ≡ readStored o → says k b (readView r) ≡ says k b o
-stored-says r o k b e = rw (e, view-stored o)
+-- a frame that is read without its list says what it says
+pub read-says-is : (o : Option Content) (k b : ℕ) → saysRead k b ((readStored o) .read) ≡ says k b o
+read-says-is none k b = refl
+read-says-is (some c) k b = refl
+
+pub read-opinion-is : (o : Option Content) → opinionRead ((readStored o) .read) ≡ opinionIn o
+read-opinion-is none = refl
+read-opinion-is (some c) = refl
 
 -- ---- the frame of a sound state
 

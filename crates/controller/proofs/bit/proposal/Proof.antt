@@ -30,46 +30,38 @@ module _ (v : View) (es : List Entry) (b h c : ℕ) (heard : h ≡ length (heard
 found : (c : tie.Start) → Heard (view (c .args .state)) (entries (now (c .args .tray))) (c .args .heard)
 found c = ready-heard (c .pre)
 
-mul-if1 : tie.Need-mul-if1
-mul-if1 c = omega (arith, found (c .before) .few)
+count-bits-requires : tie.Need-count-bits-requires
+count-bits-requires c κs = search needs
 
-count-says-requires : tie.Need-count-says-requires
-count-says-requires c κs = search needs
+mul-if1 : tie.Need-mul-if1
+mul-if1 c = omega (arith, found (c .before .before) .few)
 
 mul-if1-2 : tie.Need-mul-if1-2
-mul-if1-2 c = omega (arith, c .count-says .ensures, heard-count (found (c .before .before)) (says 3 0))
+mul-if1-2 c = omega (arith, c .before .count-bits .ensures .zeros, heard-count (found (c .before .before .before)) (says 3 0))
 
 mul-if2 : tie.Need-mul-if2
-mul-if2 c = omega (arith, found (c .before .before .before) .few)
-
-count-says-requires-2 : tie.Need-count-says-requires-2
-count-says-requires-2 c κs = search needs
+mul-if2 c = omega (arith, found (c .before .before .before .before) .few)
 
 mul-if2-2 : tie.Need-mul-if2-2
-mul-if2-2 c = omega (arith, c .count-says2 .ensures, heard-count (found (c .before .before .before .before)) (says 3 1))
+mul-if2-2 c = omega (arith, c .before .before .before .count-bits .ensures .ones, heard-count (found (c .before .before .before .before .before)) (says 3 1))
 
 returns : tie.Need-returns
 unfolding proposal
-returns c = rw (reached _ _ 0 _ _ (found (c .before .before .before) .len) (c .before .count-says .ensures) (c .if1 .taken))
+returns c = rw (reached _ _ 0 _ _ (found (c .before .before .before .before) .len) (c .before .before .count-bits .ensures .zeros) (c .if1 .taken))
 
 returns-2 : tie.Need-returns-2
 unfolding proposal
-returns-2 c = rw (missed _ _ 0 _ _ (found (c .before .before .before .before .before) .len) (c .before .before .before .count-says .ensures) (c .before .before .if1 .left), reached _ _ 1 _ _ (found (c .before .before .before .before .before) .len) (c .before .count-says2 .ensures) (c .if2 .taken))
+returns-2 c =
+    let counts = c .before .before .before .before .count-bits .ensures in
+    let heard = found (c .before .before .before .before .before .before) in
+    rw (missed _ _ 0 _ _ (heard .len) (counts .zeros) (c .before .before .if1 .left), reached _ _ 1 _ _ (heard .len) (counts .ones) (c .if2 .taken))
 
 returns-3 : tie.Need-returns-3
 unfolding proposal
-returns-3 c = rw (missed _ _ 0 _ _ (found (c .before .before .before .before .before) .len) (c .before .before .before .count-says .ensures) (c .before .before .if1 .left), missed _ _ 1 _ _ (found (c .before .before .before .before .before) .len) (c .before .count-says2 .ensures) (c .if2 .left))
+returns-3 c =
+    let counts = c .before .before .before .before .count-bits .ensures in
+    let heard = found (c .before .before .before .before .before .before) in
+    rw (missed _ _ 0 _ _ (heard .len) (counts .zeros) (c .before .before .if1 .left), missed _ _ 1 _ _ (heard .len) (counts .ones) (c .if2 .left))
 
 pub proposal-spec : {M : Type 1} → statement M
-proposal-spec =
-    tie.close
-    (tie.spec
-    mul-if1
-    count-says-requires
-    mul-if1-2
-    mul-if2
-    count-says-requires-2
-    mul-if2-2
-    returns
-    returns-2
-    returns-3)
+proposal-spec = tie.close (tie.spec count-bits-requires mul-if1 mul-if1-2 mul-if2 mul-if2-2 returns returns-2 returns-3)

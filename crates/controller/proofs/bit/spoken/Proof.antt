@@ -44,49 +44,40 @@ module _ (v : View) (es : List Entry) (h z o b d : ℕ) (heard : h ≡ length (h
 found : (c : tie.Start) → Heard (view (c .args .state)) (entries (now (c .args .tray))) (c .args .heard)
 found c = ready-heard (c .pre)
 
-few-zeros : (c : tie.After-count-says) → c .count-says .result ≤ maxNumbers
-few-zeros c = omega (arith, c .count-says .ensures, heard-count (found (c .before .before)) (says 4 0))
+few-zeros : (c : tie.After-count-bits) → c .count-bits .result .zeros ≤ maxNumbers
+few-zeros c = omega (arith, c .count-bits .ensures .zeros, heard-count (found (c .before .before)) (says 4 0))
 
-few-ones : (c : tie.After-count-says2) → c .count-says2 .result ≤ maxNumbers
-few-ones c = omega (arith, c .count-says2 .ensures, heard-count (found (c .before .before .before)) (says 4 1))
+few-ones : (c : tie.After-count-bits) → c .count-bits .result .ones ≤ maxNumbers
+few-ones c = omega (arith, c .count-bits .ensures .ones, heard-count (found (c .before .before)) (says 4 1))
 
-count-says-requires : tie.Need-count-says-requires
-count-says-requires c κs = search needs
-
-count-says-requires-2 : tie.Need-count-says-requires-2
-count-says-requires-2 c κs = search needs
+count-bits-requires : tie.Need-count-bits-requires
+count-bits-requires c κs = search needs
 
 adopted-requires : tie.Need-adopted-requires
-adopted-requires c κs = (few-zeros (c .before), few-ones c)
+adopted-requires c κs = (few-zeros c, few-ones c)
 
 opinion-of-requires : tie.Need-opinion-of-requires
 opinion-of-requires c κs = search needs
 
 strong-of-requires : tie.Need-strong-of-requires
-strong-of-requires c κs = (few-zeros (c .before .before .before .before), found (c .before .before .before .before .before .before) .few)
+strong-of-requires c κs = (few-zeros (c .before .before .before), found (c .before .before .before .before .before) .few)
 
 strong-of-requires-2 : tie.Need-strong-of-requires-2
-strong-of-requires-2 c κs = (few-ones (c .before .before .before), found (c .before .before .before .before .before .before) .few)
+strong-of-requires-2 c κs = (few-ones (c .before .before .before), found (c .before .before .before .before .before) .few)
 
 returns : tie.Need-returns
 returns c =
-    turned-zero _ _ _ _ _ _ _ (found (c .before .before .before .before .before .before .before) .len) (c .before .before .before .before .before .count-says .ensures) (c .before .before .before .before .count-says2 .ensures) (c .before .before .before .adopted .ensures) (c .before .before .opinion-of .ensures)
+    let counts = c .before .before .before .before .count-bits .ensures in
+    turned-zero _ _ _ _ _ _ _ (found (c .before .before .before .before .before .before) .len) (counts .zeros) (counts .ones) (c .before .before .before .adopted .ensures) (c .before .before .opinion-of .ensures)
     _ (c .before .if1 .taken) (c .strong-of .ensures)
 
 returns-2 : tie.Need-returns-2
 returns-2 c =
-    turned-one _ _ _ _ _ _ _ (found (c .before .before .before .before .before .before .before) .len) (c .before .before .before .before .before .count-says .ensures) (c .before .before .before .before .count-says2 .ensures) (c .before .before .before .adopted .ensures) (c .before .before .opinion-of .ensures)
-    _ (sound-gives _ (c .before .before .before .before .before .before .before .pre .sound) .bit) (c .before .if1 .left) (c .strong-of2 .ensures)
+    let counts = c .before .before .before .before .count-bits .ensures in
+    turned-one _ _ _ _ _ _ _ (found (c .before .before .before .before .before .before) .len) (counts .zeros) (counts .ones) (c .before .before .before .adopted .ensures) (c .before .before .opinion-of .ensures)
+    _ (sound-gives _ (c .before .before .before .before .before .before .pre .sound) .bit) (c .before .if1 .left) (c .strong-of2 .ensures)
 
 pub spoken-spec : {M : Type 1} → statement M
 spoken-spec =
     tie.close
-    (tie.spec
-    count-says-requires
-    count-says-requires-2
-    adopted-requires
-    opinion-of-requires
-    strong-of-requires
-    strong-of-requires-2
-    returns
-    returns-2)
+    (tie.spec count-bits-requires adopted-requires opinion-of-requires strong-of-requires strong-of-requires-2 returns returns-2)

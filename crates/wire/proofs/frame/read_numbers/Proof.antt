@@ -1,27 +1,22 @@
 -- `wire::frame::read_numbers` meets its contract: what is left to read, stored behind what was read, gives the whole list, and rises exactly
 -- if the whole list does.
 use Prim.Native.Nat.{ℕ, _≤_, _<_, _-_, _+_, _*_}
-use mathlib.Core.Bool.{true, false}
-use mathlib.Core.List.{List, [], _∷_}
+use mathlib.Core.Bool.{true}
+use mathlib.Core.List.{List}
 use mathlib.Core.Path.{_≡_, refl, sym, ap, _∙_}
-use native.Mathlib.Nat.{sub-zero}
 use native.Mathlib.Numerals.{add-one}
-use native.Mathlib.Omega.{arith}
 use borrow.Author.Needs.{needs}
 use denote.Ref.{now}
 use lib.ListN.{length, replicate, set, length-set}
 use lib.Seq.{sets}
-use Rattle.wire.specs.Laws.Numbers.{rising-stops, rising-goes, stored-filled}
-use Rattle.wire.specs.Laws.Words.{words-length, words-step}
+use Rattle.wire.specs.Laws.Numbers.{stored-filled}
+use Rattle.wire.specs.Laws.Words.{words-length}
 use Rattle.wire.specs.Limits.{frameHeader, numberWidth, maxNumbers}
 use Rattle.wire.specs.Numbers.{rising}
 use Rattle.wire.specs.Words.{wordAt, wordsAt}
+use Rattle.wire.proofs.Rest.{rest, rest-next, rest-stops, rest-goes, rest-done, rest-whole}
 use Rattle.wire.proofs.frame.read_numbers.Statement.{statement}
 use Rattle.wire.proofs.frame.read_numbers.Tie as tie
-
--- what is left to read at turn i of n
-abbrev rest : List ℕ → ℕ → ℕ → List ℕ
-rest s n i = wordsAt s (frameHeader + numberWidth * i) (n - i)
 
 abbrev Inv-loop : tie.InvT-loop
 Inv-loop bytes count at₀ last₀ i₀ at last i =
@@ -33,24 +28,9 @@ Inv-loop bytes count at₀ last₀ i₀ at last i =
 abbrev μ-loop : tie.MeasureT-loop
 μ-loop bytes count at₀ last₀ i₀ at last i = count - i
 
-module _ (s : List ℕ) (n i x : ℕ) (h : i < n) (e : x ≡ wordAt s (frameHeader + numberWidth * i)) where
-  next : rest s n i ≡ x ∷ rest s n (i + 1)
-  next = words-step s frameHeader i n h ∙ rw e
-
-  stops : (last : ℕ) → x ≤ last → rising last (rest s n i) ≡ false
-  stops last le = rw next (rising-stops last x (rest s n (i + 1)) le)
-
-  goes : (last : ℕ) → last < x → rising last (rest s n i) ≡ rising x (rest s n (i + 1))
-  goes last lt = rw next (rising-goes last x (rest s n (i + 1)) lt)
-
-  puts : (at : List ℕ) → sets at i (rest s n i) ≡ sets (set at i x) (i + 1) (rest s n (i + 1))
-  puts at = rw (next, add-one)
-
-done : (s : List ℕ) (n i : ℕ) → n ≤ i → rest s n i ≡ []
-done s n i h = let e : n - i ≡ 0 = omega arith in rw e
-
-whole : (s : List ℕ) (n : ℕ) → rest s n 0 ≡ wordsAt s frameHeader n
-whole s n = rw sub-zero
+puts : (s : List ℕ) (n i x : ℕ) → i < n → x ≡ wordAt s (frameHeader + numberWidth * i) → (at : List ℕ)
+    → sets at i (rest s n i) ≡ sets (set at i x) (i + 1) (rest s n (i + 1))
+puts s n i x h e at = rw (rest-next s n i x h e, add-one)
 
 loop-holds : tie.Need-loop-holds Inv-loop μ-loop
 loop-holds c =
@@ -69,8 +49,8 @@ returns : tie.Need-returns Inv-loop μ-loop
 returns c =
     let v = c .before .before .before .loop in
     let a = c .before .before .before .before .before .args in (
-      sym (stops (now (a .bytes)) (a .count) (v .i) (c .before .word .result) (search needs) (c .before .word .ensures) (v .last) (c .if1 .taken))
-          ∙ v .inv .3 ∙ ap (rising 0) (whole (now (a .bytes)) (a .count)),
+      sym (rest-stops (now (a .bytes)) (a .count) (v .i) (c .before .word .result) (search needs) (c .before .word .ensures) (v .last) (c .if1 .taken))
+          ∙ v .inv .3 ∙ ap (rising 0) (rest-whole (now (a .bytes)) (a .count)),
       refl,
     )
 
@@ -96,7 +76,7 @@ loop-again c =
       search needs,
       simp length-set (v .inv .1),
       sym (puts s n (v .i) x h (c .before .word .ensures) (v .at)) ∙ v .inv .2,
-      sym (goes s n (v .i) x h (c .before .word .ensures) (v .last) (c .if1 .left)) ∙ v .inv .3,
+      sym (rest-goes s n (v .i) x h (c .before .word .ensures) (v .last) (c .if1 .left)) ∙ v .inv .3,
     )
 
 returns-2 : tie.Need-returns-2 Inv-loop μ-loop
@@ -104,11 +84,11 @@ returns-2 c =
     let v = c .before .loop in
     let s = now (c .before .before .before .args .bytes) in
     let n = c .before .before .before .args .count in
-    let e = done s n (v .i) (search needs) in
-    let f : true ≡ rising 0 (wordsAt s frameHeader n) = rw e at (v .inv .3) ∙ ap (rising 0) (whole s n) in (
+    let e = rest-done s n (v .i) (search needs) in
+    let f : true ≡ rising 0 (wordsAt s frameHeader n) = rw e at (v .inv .3) ∙ ap (rising 0) (rest-whole s n) in (
       f,
       stored-filled (wordsAt s frameHeader n) (v .at) n (search needs) (words-length s frameHeader n)
-          (rw e at (v .inv .2) ∙ ap (sets (replicate maxNumbers 0) 0) (whole s n)),
+          (rw e at (v .inv .2) ∙ ap (sets (replicate maxNumbers 0) 0) (rest-whole s n)),
     )
 
 pub read-numbers-spec : {M : Type 1} → statement M

@@ -1,21 +1,21 @@
--- `controller::received::frame_opinion` meets its contract: a frame that holds a content is asked for its kind, then its bit; a void one has no opinion.
+-- `controller::received::read_opinion` meets its contract: a frame that holds a content is asked for its kind, then its bit; a void one has no opinion.
 use Prim.Native.Nat.{ℕ}
 use mathlib.Core.Path.{_≡_, sym, _∙_}
 use borrow.Author.Needs.{needs}
 use borrow.Author.Tests.{eq-eqb, ne-eqb}
-use Rattle.controller.specs.Received.{opinionIn}
-use Rattle.wire.specs.Frame.{kindSaid, bitSaid, readView}
+use Rattle.controller.specs.Storage.{opinionRead}
+use Rattle.wire.specs.Frame.{kindSaid, bitSaid}
 use Rattle.wire.specs.declared.frame.Frame.{Frame}
-use Rattle.wire.specs.declared.frame.FrameRead.{FrameRead}
+use Rattle.wire.specs.declared.frame.Read.{Read}
 use Rattle.wire.specs.declared.frame.Read.the-variants.{Valid}
-use Rattle.controller.proofs.received.frame_opinion.Statement.{statement}
-use Rattle.controller.proofs.received.frame_opinion.Tie as tie
+use Rattle.controller.proofs.received.read_opinion.Statement.{statement}
+use Rattle.controller.proofs.received.read_opinion.Tie as tie
 
-module _ (f : FrameRead) (content : Frame) (holds : f .read ≡ Valid content) where
-  of-turn : (bit : ℕ) → kindSaid (content .said) ≡ 5 → bit ≡ bitSaid (content .said) → bit ≡ opinionIn (readView f)
+module _ (r : Read) (content : Frame) (holds : r ≡ Valid content) where
+  of-turn : (bit : ℕ) → kindSaid (content .said) ≡ 5 → bit ≡ bitSaid (content .said) → bit ≡ opinionRead r
   of-turn bit e d = rw (holds, eq-eqb _ 5 e, d)
 
-  of-another : (kindSaid (content .said) ≡ 5 → ⊥) → 2 ≡ opinionIn (readView f)
+  of-another : (kindSaid (content .said) ≡ 5 → ⊥) → 2 ≡ opinionRead r
   of-another e = rw (holds, ne-eqb _ 5 e)
 
 enum-known-read : tie.Need-enum-known-read
@@ -39,8 +39,8 @@ returns-2 c = of-another _ _ (c .before .before .before .read .given .1) (λ e. 
 returns-3 : tie.Need-returns-3
 returns-3 c = search needs
 
-pub frame-opinion-spec : {M : Type 1} → statement M
-frame-opinion-spec =
+pub read-opinion-spec : {M : Type 1} → statement M
+read-opinion-spec =
     tie.close
     (tie.spec
     enum-known-read

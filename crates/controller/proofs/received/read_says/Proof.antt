@@ -1,23 +1,23 @@
--- `controller::received::frame_says` meets its contract: a frame that holds a content is asked for its kind, then its bit; a void one says nothing.
+-- `controller::received::read_says` meets its contract: a frame that holds a content is asked for its kind, then its bit; a void one says nothing.
 use Prim.Native.Nat.{ℕ}
 use mathlib.Core.Bool.{false}
 use mathlib.Core.Path.{_≡_, sym, _∙_}
 use borrow.Author.Needs.{needs}
 use borrow.Author.Tests.{eq-eqb, ne-eqb}
 use lib.Dec.{eqb}
-use Rattle.controller.specs.Received.{says}
-use Rattle.wire.specs.Frame.{kindSaid, bitSaid, readView}
+use Rattle.controller.specs.Storage.{saysRead}
+use Rattle.wire.specs.Frame.{kindSaid, bitSaid}
 use Rattle.wire.specs.declared.frame.Frame.{Frame}
-use Rattle.wire.specs.declared.frame.FrameRead.{FrameRead}
+use Rattle.wire.specs.declared.frame.Read.{Read}
 use Rattle.wire.specs.declared.frame.Read.the-variants.{Valid}
-use Rattle.controller.proofs.received.frame_says.Statement.{statement}
-use Rattle.controller.proofs.received.frame_says.Tie as tie
+use Rattle.controller.proofs.received.read_says.Statement.{statement}
+use Rattle.controller.proofs.received.read_says.Tie as tie
 
-module _ (f : FrameRead) (k b : ℕ) (content : Frame) (holds : f .read ≡ Valid content) where
-  of-kind : (bit : ℕ) → kindSaid (content .said) ≡ k → bit ≡ bitSaid (content .said) → eqb bit b ≡ says k b (readView f)
+module _ (r : Read) (k b : ℕ) (content : Frame) (holds : r ≡ Valid content) where
+  of-kind : (bit : ℕ) → kindSaid (content .said) ≡ k → bit ≡ bitSaid (content .said) → eqb bit b ≡ saysRead k b r
   of-kind bit e d = rw (holds, eq-eqb _ k e, d)
 
-  of-another : (kindSaid (content .said) ≡ k → ⊥) → false ≡ says k b (readView f)
+  of-another : (kindSaid (content .said) ≡ k → ⊥) → false ≡ saysRead k b r
   of-another e = rw (holds, ne-eqb _ k e)
 
 enum-known-read : tie.Need-enum-known-read
@@ -41,8 +41,8 @@ returns-2 c = of-another _ _ _ _ (c .before .before .before .read .given .1) (λ
 returns-3 : tie.Need-returns-3
 returns-3 c = search needs
 
-pub frame-says-spec : {M : Type 1} → statement M
-frame-says-spec =
+pub read-says-spec : {M : Type 1} → statement M
+read-says-spec =
     tie.close
     (tie.spec
     enum-known-read
