@@ -31,15 +31,17 @@ pub(crate) fn place_of(list: Numbers, x: u32) -> usize
     requires { ⌜ soundList list ≡ true ⌝ }
     ensures { λ r. ⌜ r ≡ below x (listed list) ⌝ }
 {
-    let len = list.len;
-    let mut i = 0;
-    while i < len {
-        if x <= list.at[i] {
-            return i;
+    let mut low = 0;
+    let mut high = list.len;
+    while low < high {
+        let middle = (low + high) / 2;
+        if list.at[middle] < x {
+            low = middle + 1;
+        } else {
+            high = middle;
         }
-        i += 1;
     }
-    i
+    low
 }
 
 pub(crate) fn has(list: Numbers, x: u32) -> bool

@@ -71,17 +71,22 @@ pub(crate) fn heard_with(tray: &[u8], heard: Numbers) -> Grown
     let mut list = heard;
     let mut i = 0;
     while i < count {
-        let more = insert(list, entry_sender(tray, i));
-        let fits = more.fits;
-        if fits {
-            list = more.list;
+        let x = entry_sender(tray, i);
+        if has(list, x) {
+            i += 1;
         } else {
-            return Grown {
-                fits: false,
-                list: heard,
-            };
+            let more = insert(list, x);
+            let fits = more.fits;
+            if fits {
+                list = more.list;
+                i += 1;
+            } else {
+                return Grown {
+                    fits: false,
+                    list: heard,
+                };
+            }
         }
-        i += 1;
     }
     Grown { fits: true, list }
 }

@@ -1,5 +1,5 @@
 -- Laws of stored lists: the place of a number, a number put in at its place, and what the stored form is then.
-use Prim.Native.Nat.{ℕ, suc, _+_, _-_, _≤_, _<_}
+use Prim.Native.Nat.{ℕ, zero, suc, _+_, _-_, _≤_, _<_}
 use mathlib.Core.Path.{_≡_, refl, sym, ap, _∙_}
 use mathlib.Core.Bool.{true, false, Bool, cond}
 use mathlib.Core.Logic.{inl, inr, _≢_}
@@ -20,14 +20,22 @@ use Rattle.controller.specs.Laws.Lists.{true-or-false, out-mem, getD-in,
 
 -- ---- the place of a number
 
--- one step along a list, as a search takes it
-pub below-step : (x : ℕ) (l : List ℕ) (i : ℕ) → i < length l → getD l i 0 < x → below x (drop i l) ≡ suc (below x (drop (i + 1) l))
-below-step x l i h lt = rw (add-one, drop-cons l i 0 h, lt-ltb (getD l i 0) x lt)
+-- a number of the list that is below x stands before the place of x, one that is not does not
+pub below-past : (x : ℕ) (l : List ℕ) (i : ℕ) → Rising l → i < length l → getD l i 0 < x → i < below x l
+below-past x [] i up h lt = absurd (omega arith)
+below-past x (y ∷ l) zero up h lt = rw (lt-ltb y x lt) (omega arith)
+below-past x (y ∷ l) (suc i) up h lt =
+    let first : y < x = omega (arith, up .0 (getD l i 0) (getD-in l i (omega arith))) in
+    rw (lt-ltb y x first) (omega (arith, below-past x l i (up .1) (omega arith) lt))
 
-pub below-stops : (x : ℕ) (l : List ℕ) (i : ℕ) → Rising l → i < length l → x ≤ getD l i 0 → below x (drop i l) ≡ 0
-below-stops x l i up h le =
-    let rest : Rising (getD l i 0 ∷ drop (suc i) l) = rw (drop-cons l i 0 h) at (drop-rising i l up) in
-    rw (drop-cons l i 0 h) (count-none (λ y. ltb y x) (getD l i 0 ∷ drop (suc i) l) (λ y j. le-ltb y x (elim (List·Memᴰ·cases-cons j) [ inl e ↦ omega arith | inr k ↦ omega (arith, rest .0 y k) ])))
+pub below-within : (x : ℕ) (l : List ℕ) (i : ℕ) → Rising l → i < length l → x ≤ getD l i 0 → below x l ≤ i
+below-within x [] i up h le = absurd (omega arith)
+below-within x (y ∷ l) zero up h le =
+    rw (le-ltb y x le, count-none (λ z. ltb z x) l (λ z j. le-ltb z x (omega (arith, up .0 z j)))) (omega arith)
+below-within x (y ∷ l) (suc i) up h le = elim (true-or-false (ltb y x)) [
+  | inl t ↦ rw t (omega (arith, below-within x l i (up .1) (omega arith) le))
+  | inr t ↦ rw t (omega (arith, below-within x l i (up .1) (omega arith) le))
+]
 
 -- the number at the place of x is x exactly if x is in the list
 pub below-finds : (x : ℕ) (l : List ℕ) → Rising l → below x l < length l → eqb (getD l (below x l) 0) x ≡ mem x l

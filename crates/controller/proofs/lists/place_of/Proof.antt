@@ -1,77 +1,79 @@
--- `controller::lists::place_of` meets its contract: the numbers passed are below x, and in a rising list none is from the first that is not.
-use Prim.Native.Nat.{ℕ, suc, _+_, _-_, _≤_, _<_}
-use mathlib.Core.Path.{_≡_, ap}
+-- `controller::lists::place_of` meets its contract: the place lies between the two ends all the time, since in a rising list a number below x is before it and one that is not is not.
+use Prim.Native.Nat.{ℕ, _+_, _-_, _/_, _≤_, _<_}
+use mathlib.Core.Path.{_≡_}
 use native.Mathlib.Omega.{arith}
 use borrow.Author.Needs.{needs}
-use lib.ListN.{getD, drop, drop-of-length-le}
+use lib.ListN.{getD}
 use lib.Seq.{getD-take}
 use Rattle.wire.specs.Limits.{maxNumbers}
 use Rattle.wire.specs.Numbers.{listed}
 use Rattle.controller.specs.Laws.State.{ListTests, sound-list-gives}
-use Rattle.controller.specs.Laws.Storage.{below-step, below-stops}
+use Rattle.controller.specs.Laws.Storage.{below-past, below-within, below-length}
 use Rattle.controller.specs.Storage.{below}
 use Rattle.wire.specs.declared.frame.Numbers.{Numbers}
 use Rattle.controller.proofs.lists.place_of.Statement.{statement}
 use Rattle.controller.proofs.lists.place_of.Tie as tie
 
 abbrev Inv-loop : tie.InvT-loop
-Inv-loop x list len i₀ i = (i ≤ len) × (len ≤ maxNumbers) × (below x (listed list) ≡ i + below x (drop i (listed list)))
+Inv-loop x list low₀ high₀ low high = (high ≤ list .len) × (list .len ≤ maxNumbers) × (low ≤ below x (listed list)) × (below x (listed list) ≤ high)
 
 abbrev μ-loop : tie.MeasureT-loop
-μ-loop x list len i₀ i = len - i
+μ-loop x list low₀ high₀ low high = high - low
 
-module _ (n : Numbers) (x i : ℕ) (t : ListTests n) where
-  stops : i < n .len → x ≤ getD (n .at) i 0 → below x (listed n) ≡ i + below x (drop i (listed n)) → i ≡ below x (listed n)
-  stops h le e =
-      let here : getD (listed n) i 0 ≡ getD (n .at) i 0 = getD-take (n .len) (n .at) i 0 h in
-      let none : below x (drop i (listed n)) ≡ 0 = below-stops x (listed n) i (t .list .rises) (rw (t .used) h) (rw here le) in
-      omega arith
+module _ (n : Numbers) (x i : ℕ) (t : ListTests n) (h : i < n .len) where
+  here : getD (listed n) i 0 ≡ getD (n .at) i 0
+  here = getD-take (n .len) (n .at) i 0 h
 
-  passes : i < n .len → getD (n .at) i 0 < x → below x (listed n) ≡ i + below x (drop i (listed n)) → below x (listed n) ≡ (i + 1) + below x (drop (i + 1) (listed n))
-  passes h lt e =
-      let here : getD (listed n) i 0 ≡ getD (n .at) i 0 = getD-take (n .len) (n .at) i 0 h in
-      let step : below x (drop i (listed n)) ≡ suc (below x (drop (i + 1) (listed n))) = below-step x (listed n) i (rw (t .used) h) (rw here lt) in
-      omega arith
+  past : getD (n .at) i 0 < x → i < below x (listed n)
+  past lt = below-past x (listed n) i (t .list .rises) (rw (t .used) h) (rw here lt)
 
-  done : n .len ≤ i → below x (listed n) ≡ i + below x (drop i (listed n)) → i ≡ below x (listed n)
-  done h e =
-      let none : below x (drop i (listed n)) ≡ 0 = ap (below x) (drop-of-length-le (listed n) {i = i} (rw (t .used) h)) in
-      omega arith
+  within : x ≤ getD (n .at) i 0 → below x (listed n) ≤ i
+  within le = below-within x (listed n) i (t .list .rises) (rw (t .used) h) (rw here le)
 
 loop-holds : tie.Need-loop-holds Inv-loop μ-loop
 loop-holds c =
-    let t = sound-list-gives (c .args .t1) (c .pre) in
-    (search needs, rw (← t .used) (t .list .short), omega arith)
+    let n = c .args .t1 in
+    let t = sound-list-gives n (c .pre) in
+    (omega arith, rw (← t .used) (t .list .short), omega arith, omega (arith, t .used, below-length (c .args .x) (listed n)))
+
+-- what is looked at is one of the list
+middle : (c : tie.In-loop Inv-loop μ-loop) → (c .before .loop .low + c .before .loop .high) / 2 < c .before .before .args .t1 .len
+middle c = omega (arith, c .loop-test .taken, c .before .loop .inv .0)
+
+add-middle : tie.Need-add-middle Inv-loop μ-loop
+add-middle c = omega (arith, c .loop-test .taken, c .before .loop .inv .0, c .before .loop .inv .1)
 
 mul-if1 : tie.Need-mul-if1 Inv-loop μ-loop
-mul-if1 c = search needs
+mul-if1 c = omega (arith, middle c, c .before .loop .inv .1)
 
 element-copy-out-if1 : tie.Need-element-copy-out-if1 Inv-loop μ-loop
-element-copy-out-if1 c = search needs
+element-copy-out-if1 c = omega (arith, middle c, c .before .loop .inv .1)
 
-returns : tie.Need-returns Inv-loop μ-loop
-returns c =
-    let v = c .before .before .before .loop in
-    let n = c .before .before .before .before .args .t1 in
-    stops n (c .before .before .before .before .args .x) (v .i) (sound-list-gives n (c .before .before .before .before .pre)) (search needs) (c .if1 .taken) (v .inv .2)
-
-add-i : tie.Need-add-i Inv-loop μ-loop
-add-i c = search needs
+add-low : tie.Need-add-low Inv-loop μ-loop
+add-low c = omega (arith, middle (c .before .before), c .before .before .before .loop .inv .1)
 
 loop-less : tie.Need-loop-less Inv-loop μ-loop
-loop-less c = search needs
+loop-less c = omega (arith, c .before .before .loop-test .taken)
 
 loop-again : tie.Need-loop-again Inv-loop μ-loop
 loop-again c =
     let v = c .before .before .before .loop in
     let n = c .before .before .before .before .args .t1 in
-    (search needs, search needs, passes n (c .before .before .before .before .args .x) (v .i) (sound-list-gives n (c .before .before .before .before .pre)) (search needs) (c .if1 .left) (v .inv .2))
+    let more = past n (c .before .before .before .before .args .x) _ (sound-list-gives n (c .before .before .before .before .pre)) (middle (c .before .before)) (c .if1 .taken) in
+    (v .inv .0, v .inv .1, omega (arith, more), v .inv .3)
 
-returns-2 : tie.Need-returns-2 Inv-loop μ-loop
-returns-2 c =
-    let v = c .before .loop in
-    let n = c .before .before .args .t1 in
-    done n (c .before .before .args .x) (v .i) (sound-list-gives n (c .before .before .pre)) (search needs) (v .inv .2)
+loop-less-2 : tie.Need-loop-less-2 Inv-loop μ-loop
+loop-less-2 c = omega (arith, c .before .before .loop-test .taken)
+
+loop-again-2 : tie.Need-loop-again-2 Inv-loop μ-loop
+loop-again-2 c =
+    let v = c .before .before .before .loop in
+    let n = c .before .before .before .before .args .t1 in
+    let most = within n (c .before .before .before .before .args .x) _ (sound-list-gives n (c .before .before .before .before .pre)) (middle (c .before .before)) (c .if1 .left) in
+    (omega (arith, middle (c .before .before)), v .inv .1, v .inv .2, most)
+
+returns : tie.Need-returns Inv-loop μ-loop
+returns c = omega (arith, c .loop-test .left, c .before .loop .inv .2, c .before .loop .inv .3)
 
 pub place-of-spec : {M : Type 1} → statement M
 place-of-spec =
@@ -80,10 +82,12 @@ place-of-spec =
     Inv-loop
     μ-loop
     loop-holds
+    add-middle
     mul-if1
     element-copy-out-if1
-    returns
-    add-i
+    add-low
     loop-less
     loop-again
-    returns-2)
+    loop-less-2
+    loop-again-2
+    returns)

@@ -11,7 +11,7 @@ use borrow.Author.Needs.{needs}
 use denote.Ref.{now}
 use lib.ListN.{length}
 use Rattle.controller.specs.Laws.Storage.{grown-fits, grown-full, fits-gives, long-gives}
-use Rattle.controller.specs.Laws.Lists.{inside-length, rising-no-repeats, insert-in, insert-rising, insert-all-in, insert-all-insert}
+use Rattle.controller.specs.Laws.Lists.{inside-length, rising-no-repeats, mem-in, insert-in, insert-known, insert-rising, insert-all-in, insert-all-insert}
 use Rattle.controller.specs.Laws.Received.{senders-step, sender-in}
 use Rattle.controller.specs.Laws.State.{SoundList, sound-list-gives, sound-list-test}
 use Rattle.controller.specs.Lists.{In, insert, insertAll}
@@ -44,6 +44,10 @@ module _ (b : List ℕ) (n i x : ℕ) (list : Numbers) (h : i < n) (e : x ≡ se
 
   next : insertAll (rest b n i) (listed list) ≡ insertAll (rest b n (i + 1)) (insert x (listed list))
   next = rw (senders-step b n i h, ← e) (sym (insert-all-insert x (rest b n (i + 1)) (listed list) (was .rises)))
+
+  -- one that is in the list already changes nothing
+  known : In x (listed list) → insertAll (rest b n (i + 1)) (listed list) ≡ insertAll (rest b n i) (listed list)
+  known there = rw next (rw (insert-known x (listed list) (was .rises) there))
 
   -- what is in the list stays in it
   longer : length (insert x (listed list)) ≤ length (insertAll (rest b n i) (listed list))
@@ -96,18 +100,8 @@ loop-holds c = (search needs, c .before .before .pre .1, rw (c .entry-count .ens
 entry-sender-requires : tie.Need-entry-sender-requires Inv-loop μ-loop
 entry-sender-requires c κs = search needs
 
-insert-requires : tie.Need-insert-requires Inv-loop μ-loop
-insert-requires c κs = c .before .before .loop .inv .1
-
-returns : tie.Need-returns Inv-loop μ-loop
-returns c =
-    let v = c .before .before .before .before .loop in
-    let a = c .before .before .before .before .before .before .before .args in
-    let x = c .before .before .entry-sender .result in
-    let all = insertAll (senders (entries (now (a .tray)))) (listed (a .heard)) in
-    let long : maxNumbers < length (insert x (listed (v .list))) = long-gives _ (v .list) (c .before .insert .result) (c .before .insert .ensures) (c .if1 .left) in
-    let more = longer (now (a .tray)) (c .before .before .before .before .before .entry-count .result) (v .i) x (v .list) (c .before .before .before .loop-test .taken) (c .before .before .entry-sender .ensures) (v .inv .1) in
-    grown-full all (a .heard) (omega (arith, ap length (v .inv .2)))
+has-requires : tie.Need-has-requires Inv-loop μ-loop
+has-requires c κs = c .before .before .loop .inv .1
 
 add-i : tie.Need-add-i Inv-loop μ-loop
 add-i c = search needs
@@ -117,19 +111,50 @@ loop-less c = search needs
 
 loop-again : tie.Need-loop-again Inv-loop μ-loop
 loop-again c =
-    let v = c .before .before .before .before .before .loop in
-    let a = c .before .before .before .before .before .before .before .before .args in
-    let b = now (a .tray) in
-    let n = c .before .before .before .before .before .before .entry-count .result in
-    let x = c .before .before .before .entry-sender .result in
-    let e = c .before .before .before .entry-sender .ensures in
-    let h = c .before .before .before .before .loop-test .taken in
-    let g = c .before .before .insert .result in
-    let above = positive b n (v .i) x (c .before .before .before .before .before .before .before .before .pre .2) (c .before .before .before .before .before .before .entry-count .ensures) h e in (
+    let v = c .before .before .before .before .loop in
+    let b = now (c .before .before .before .before .before .before .before .args .tray) in
+    let n = c .before .before .before .before .before .entry-count .result in
+    let x = c .before .before .entry-sender .result in
+    let h = c .before .before .before .loop-test .taken in
+    let there = mem-in (listed (v .list)) (sym (c .before .has .ensures) ∙ c .if1 .taken) in (
       search needs,
-      stays-sound b n (v .i) x (v .list) h e (v .inv .1) g (c .before .before .insert .ensures) (c .before .if1 .taken) above,
-      left b n (v .i) x (v .list) h e (v .inv .1) g (c .before .before .insert .ensures) (c .before .if1 .taken) ∙ v .inv .2,
+      v .inv .1,
+      known b n (v .i) x (v .list) h (c .before .before .entry-sender .ensures) (v .inv .1) there ∙ v .inv .2,
     )
+
+insert-requires : tie.Need-insert-requires Inv-loop μ-loop
+insert-requires c κs = c .before .before .before .before .loop .inv .1
+
+add-i-2 : tie.Need-add-i-2 Inv-loop μ-loop
+add-i-2 c = search needs
+
+loop-less-2 : tie.Need-loop-less-2 Inv-loop μ-loop
+loop-less-2 c = search needs
+
+loop-again-2 : tie.Need-loop-again-2 Inv-loop μ-loop
+loop-again-2 c =
+    let v = c .before .before .before .before .before .before .before .loop in
+    let b = now (c .before .before .before .before .before .before .before .before .before .before .args .tray) in
+    let n = c .before .before .before .before .before .before .before .before .entry-count .result in
+    let x = c .before .before .before .before .before .entry-sender .result in
+    let e = c .before .before .before .before .before .entry-sender .ensures in
+    let h = c .before .before .before .before .before .before .loop-test .taken in
+    let g = c .before .before .insert .result in
+    let above = positive b n (v .i) x (c .before .before .before .before .before .before .before .before .before .before .pre .2) (c .before .before .before .before .before .before .before .before .entry-count .ensures) h e in (
+      search needs,
+      stays-sound b n (v .i) x (v .list) h e (v .inv .1) g (c .before .before .insert .ensures) (c .before .if2 .taken) above,
+      left b n (v .i) x (v .list) h e (v .inv .1) g (c .before .before .insert .ensures) (c .before .if2 .taken) ∙ v .inv .2,
+    )
+
+returns : tie.Need-returns Inv-loop μ-loop
+returns c =
+    let v = c .before .before .before .before .before .before .loop in
+    let a = c .before .before .before .before .before .before .before .before .before .args in
+    let x = c .before .before .before .before .entry-sender .result in
+    let all = insertAll (senders (entries (now (a .tray)))) (listed (a .heard)) in
+    let long : maxNumbers < length (insert x (listed (v .list))) = long-gives _ (v .list) (c .before .insert .result) (c .before .insert .ensures) (c .if2 .left) in
+    let more = longer (now (a .tray)) (c .before .before .before .before .before .before .before .entry-count .result) (v .i) x (v .list) (c .before .before .before .before .before .loop-test .taken) (c .before .before .before .before .entry-sender .ensures) (v .inv .1) in
+    grown-full all (a .heard) (omega (arith, ap length (v .inv .2)))
 
 returns-2 : tie.Need-returns-2 Inv-loop μ-loop
 returns-2 c =
@@ -146,9 +171,13 @@ heard-with-spec =
     entry-count-requires
     loop-holds
     entry-sender-requires
-    insert-requires
-    returns
+    has-requires
     add-i
     loop-less
     loop-again
+    insert-requires
+    add-i-2
+    loop-less-2
+    loop-again-2
+    returns
     returns-2)
