@@ -15,9 +15,11 @@ use Rattle.wire.specs.Numbers.{listed}
 use Rattle.wire.specs.Tray.{entries, firstBytes}
 use Rattle.wire.specs.declared.frame.Numbers.{Numbers}
 use Rattle.wire.specs.declared.frame.Read.the-variants.{Valid}
-use Rattle.controller.specs.Received.{heardAfter, readIn, received, frameOf}
+use Rattle.wire.specs.declared.frame.Read.{Read}
+use Rattle.controller.specs.Laws.Received.{read-says-is, read-opinion-is}
+use Rattle.controller.specs.Received.{heardAfter, readIn, received, frameOf, says, opinionIn}
 use Rattle.controller.specs.State.{view}
-use Rattle.controller.specs.Storage.{Ready, saidUnder}
+use Rattle.controller.specs.Storage.{Ready, saidUnder, saysRead, opinionRead}
 use Rattle.controller.specs.declared.received.Firsts.{Firsts}
 use Rattle.controller.specs.declared.state.State.{State}
 
@@ -35,7 +37,7 @@ module _ {s : State} {b : List ℕ} {n : Numbers} {f : Firsts} (ready : Ready s 
   ready-few = rw (ready .heard) (ready .short)
 
   -- what the frame received under the number at place j says
-  pub ready-said : (j : ℕ) → j < n .len
+  ready-said : (j : ℕ) → j < n .len
       → saidUnder (s .own) (s .round) (s .said) b (getD (n .at) j 0) (getD (f .at) j 0) ≡ (readStored (received (view s) (entries b) (getD (listed n) j 0))) .read
   unfolding received frameOf
   ready-said j h =
@@ -47,3 +49,11 @@ module _ {s : State} {b : List ℕ} {n : Numbers} {f : Firsts} (ready : Ready s 
           ≡ (readStored (cond t (some (frameOf (view s))) (readIn (s .round) (firstBytes (getD (n .at) j 0) (entries b))))) .read
       pick true = refl
       pick false = refl
+
+  pub ready-says : (j k bit : ℕ) (r : Read) → j < n .len → r ≡ saidUnder (s .own) (s .round) (s .said) b (getD (n .at) j 0) (getD (f .at) j 0)
+      → saysRead k bit r ≡ says k bit (received (view s) (entries b) (getD (listed n) j 0))
+  ready-says j k bit r h e = rw (e, ready-said j h) (read-says-is (received (view s) (entries b) (getD (listed n) j 0)) k bit)
+
+  pub ready-opinion : (j : ℕ) (r : Read) → j < n .len → r ≡ saidUnder (s .own) (s .round) (s .said) b (getD (n .at) j 0) (getD (f .at) j 0)
+      → opinionRead r ≡ opinionIn (received (view s) (entries b) (getD (listed n) j 0))
+  ready-opinion j r h e = rw (e, ready-said j h) (read-opinion-is (received (view s) (entries b) (getD (listed n) j 0)))

@@ -3,20 +3,20 @@ use Prim.Native.Nat.{ℕ, zero, suc, _+_, _-_, _≤_, _<_}
 use mathlib.Core.Path.{_≡_, refl, sym, ap, _∙_}
 use mathlib.Core.Bool.{true, false, Bool, cond}
 use mathlib.Core.Logic.{inl, inr, _≢_}
-use mathlib.Core.List.{List, [], _∷_, _++_, append-assoc, List·Memᴰ·head, List·Memᴰ·tail, List·Memᴰ·cases-cons, Memᴰ·cast}
+use mathlib.Core.List.{List, [], _∷_, _++_, append-assoc, List·Memᴰ·head, List·Memᴰ·tail, Memᴰ·cast}
 use native.Mathlib.Numerals.{add-one}
 use native.Mathlib.Omega.{arith}
 use borrow.Author.Tests.{leb-true, leb-false, ltb-true, ltb-false, eq-eqb, ne-eqb, lt-ltb, le-ltb, le-leb, lt-leb}
 use lib.Dec.{eqb, ltb, leb}
 use lib.ListN.{length, getD, set, take, drop, replicate, length-append, length-take, length-drop, List·getD-append}
-use lib.Seq.{drop-cons, take-suc, append-snoc, set-set, set-at, set-split, getD-set-other, getD-take, slice, slice-empty, slice-cons, drop-append-add, length-take-le, take-length, drop-length, take-take}
+use lib.Seq.{take-suc, append-snoc, set-set, set-at, set-split, getD-set-other, getD-take, slice, slice-empty, slice-cons, drop-append-add, length-take-le, take-length, drop-length, take-take}
 use Rattle.wire.specs.Limits.{maxNumbers}
 use Rattle.wire.specs.Numbers.{stored, listed}
 use Rattle.wire.specs.declared.frame.Numbers.{Numbers}
 use Rattle.controller.specs.Lists.{In, mem, insert, Rising}
 use Rattle.controller.specs.Storage.{below, insertedAt, opened, grown}
 use Rattle.controller.specs.declared.lists.Grown.{Grown}
-use Rattle.controller.specs.Laws.Lists.{true-or-false, out-mem, getD-in, count-none, count-short, count-split, drop-rising, rising-place, mem-in, mem-out}
+use Rattle.controller.specs.Laws.Lists.{true-or-false, out-mem, getD-in, count-none, count-short, count-split, rising-place, mem-in, mem-out}
 
 -- ---- the place of a number
 

@@ -6,26 +6,21 @@ use native.Mathlib.Omega.{arith}
 use borrow.Author.Needs.{needs}
 use denote.Ref.{now}
 use lib.ListN.{getD}
-use Rattle.controller.specs.Laws.Ready.{ready-said, ready-few}
-use Rattle.controller.specs.Laws.Received.{read-opinion-is}
+use Rattle.controller.specs.Laws.Ready.{ready-opinion, ready-few}
 use Rattle.controller.specs.Laws.State.{sound-gives}
 use Rattle.controller.specs.Laws.Step.{Heard, ready-heard, heard-place, heard-silent}
 use Rattle.controller.specs.Received.{received, opinionIn}
 use Rattle.controller.specs.State.{View, view}
-use Rattle.controller.specs.Storage.{below, opinionRead}
-use Rattle.wire.specs.Frame.{readStored}
+use Rattle.controller.specs.Storage.{below}
 use Rattle.wire.specs.Numbers.{listed}
 use Rattle.wire.specs.Tray.{Entry, entries}
-use Rattle.wire.specs.declared.frame.Read.{Read}
 use Rattle.controller.proofs.bit.king_opinion.Statement.{statement}
 use Rattle.controller.proofs.bit.king_opinion.Tie as tie
 
 -- the opinion in what was read at the place j of k
-king-said : (v : View) (es : List Entry) (l : List ℕ) (r : Read) (j k o : ℕ) → j ≡ below k l → getD l (below k l) 0 ≡ k
-    → r ≡ (readStored (received v es (getD l j 0))) .read → o ≡ opinionRead r → o ≡ opinionIn (received v es k)
-king-said v es l r j k o at there read said =
-    said ∙ ap opinionRead read ∙ read-opinion-is (received v es (getD l j 0))
-    ∙ ap (λ (x : ℕ). opinionIn (received v es x)) (ap (λ (i : ℕ). getD l i 0) at ∙ there)
+king-said : (v : View) (es : List Entry) (l : List ℕ) (j k o : ℕ) → j ≡ below k l → getD l (below k l) 0 ≡ k
+    → o ≡ opinionIn (received v es (getD l j 0)) → o ≡ opinionIn (received v es k)
+king-said v es l j k o at there said = said ∙ ap (λ (x : ℕ). opinionIn (received v es x)) (ap (λ (i : ℕ). getD l i 0) at ∙ there)
 
 -- those heard
 found : (c : tie.Start) → Heard (view (c .args .state)) (entries (now (c .args .tray))) (c .args .t3)
@@ -67,9 +62,8 @@ read-opinion-requires c κs = search needs
 returns : tie.Need-returns
 returns c =
     let start = c .before .before .before .before .before .before .before .before in
-    king-said _ _ (listed (start .args .t3)) (c .before .received-said .result) _ _ _
-    (c .before .before .before .before .place-of .ensures) (place (c .before .before .before .before .before) .1)
-    (c .before .received-said .ensures ∙ ready-said (start .pre) _ (inside (c .before .before .before .before))) (c .read-opinion .ensures)
+    king-said _ _ (listed (start .args .t3)) _ _ _ (c .before .before .before .before .place-of .ensures) (place (c .before .before .before .before .before) .1)
+    (c .read-opinion .ensures ∙ ready-opinion (start .pre) _ _ (inside (c .before .before .before .before)) (c .before .received-said .ensures))
 
 returns-2 : tie.Need-returns-2
 returns-2 c = sym (heard-silent (sound-gives _ (c .before .before .before .pre .sound)) (found (c .before .before .before)) (c .before .before .before .args .state .king) (sym (c .before .has .ensures) ∙ c .if1 .left))

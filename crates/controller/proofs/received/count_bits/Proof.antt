@@ -2,7 +2,7 @@
 use Prim.Native.Nat.{ℕ, _+_, _-_, _≤_, _<_}
 use mathlib.Core.Bool.{Bool, true, false, cond}
 use mathlib.Core.List.{List}
-use mathlib.Core.Path.{_≡_, refl, sym, ap, _∙_}
+use mathlib.Core.Path.{_≡_, refl, sym, _∙_}
 use native.Mathlib.Numerals.{add-one}
 use native.Mathlib.Omega.{arith}
 use borrow.Author.Needs.{needs}
@@ -10,8 +10,7 @@ use denote.Ref.{now}
 use lib.ListN.{length, getD, take, length-take}
 use lib.Seq.{take-suc, take-all}
 use Rattle.controller.specs.Laws.Lists.{count-append, count-split}
-use Rattle.controller.specs.Laws.Ready.{ready-listed, ready-used, ready-few, ready-said}
-use Rattle.controller.specs.Laws.Received.{read-says-is}
+use Rattle.controller.specs.Laws.Ready.{ready-listed, ready-used, ready-few, ready-says}
 use Rattle.controller.specs.Lists.{countIf}
 use Rattle.controller.specs.Received.{received, says}
 use Rattle.controller.specs.State.{view}
@@ -41,8 +40,7 @@ turn : {s : State} {b : List ℕ} {n : Numbers} {f : Firsts} (k bit j total one 
     → r ≡ saidUnder (s .own) (s .round) (s .said) b (getD (n .at) j 0) (getD (f .at) j 0) → one ≡ cond (saysRead k bit r) 1 0
     → total ≡ countIf (counted s b k bit) (take j (listed n)) → total + one ≡ countIf (counted s b k bit) (take (j + 1) (listed n))
 turn {s} {b} {n} {f} k bit j total one r ready h read said sum =
-    let asked : saysRead k bit r ≡ counted s b k bit (getD (listed n) j 0) = rw (read, ready-said ready j h) (read-says-is (received (view s) (entries b) (getD (listed n) j 0)) k bit) in
-    rw (sum, said, asked) (sym (further (counted s b k bit) (listed n) j (omega (arith, h, ready-used ready))))
+    rw (sum, said, ready-says ready j k bit r h read) (sym (further (counted s b k bit) (listed n) j (omega (arith, h, ready-used ready))))
 
 abbrev Inv-loop : tie.InvT-loop
 Inv-loop state tray kind heard firsts len zeros₀ ones₀ j₀ zeros ones j =

@@ -12,13 +12,12 @@ use lib.ListN.{length, getD, take, length-take, length-append}
 use lib.Seq.{take-suc, take-all, getD-take}
 use Rattle.controller.specs.Laws.Storage.{grown-fits}
 use Rattle.controller.specs.Laws.Lists.{keep-append, keep-length}
-use Rattle.controller.specs.Laws.Ready.{ready-listed, ready-used, ready-few, ready-said}
-use Rattle.controller.specs.Laws.Received.{read-says-is}
+use Rattle.controller.specs.Laws.Ready.{ready-listed, ready-used, ready-few, ready-says}
 use Rattle.controller.specs.Lists.{keep}
 use Rattle.controller.specs.Received.{received, says}
 use Rattle.controller.specs.Rotation.{roster}
 use Rattle.controller.specs.State.{view}
-use Rattle.controller.specs.Storage.{grown, saysRead}
+use Rattle.controller.specs.Storage.{grown}
 use Rattle.controller.specs.declared.lists.Grown.{Grown}
 use Rattle.controller.specs.declared.state.State.{State}
 use Rattle.wire.specs.Laws.Numbers.{listed-stored}
@@ -114,9 +113,7 @@ loop-again c =
     let f = sent-init (a .state) (now (a .tray)) in
     let h : v .j < length l = omega (arith, taken, ready-used pre) in
     let room : length (keep f (take (v .j) l)) < maxNumbers = omega (arith, bound f l (v .j), taken, ready-few pre) in
-    let asked : f (getD l (v .j) 0) ≡ c .before .read-says .result =
-    sym (read-says-is (received (view (a .state)) (entries (now (a .tray))) (getD l (v .j) 0)) 1 2)
-    ∙ ap (saysRead 1 2) (sym (c .before .before .received-said .ensures ∙ ready-said pre (v .j) taken)) ∙ sym (c .before .read-says .ensures) in (
+    let asked : f (getD l (v .j) 0) ≡ c .before .read-says .result = sym (ready-says pre (v .j) 1 2 _ taken (c .before .before .received-said .ensures)) ∙ sym (c .before .read-says .ensures) in (
       search needs,
       elim (c .if1 .came) [
         | inl p ↦

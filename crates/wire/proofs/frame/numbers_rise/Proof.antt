@@ -1,5 +1,5 @@
 -- `wire::frame::numbers_rise` meets its contract: what is left to read rises from the last number exactly if the whole list does from 0.
-use Prim.Native.Nat.{_≤_, _<_, _-_}
+use Prim.Native.Nat.{_≤_, _-_}
 use mathlib.Core.Path.{_≡_, refl, sym, ap, _∙_}
 use borrow.Author.Needs.{needs}
 use denote.Ref.{now}
