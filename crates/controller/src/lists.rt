@@ -26,16 +26,16 @@ pub(crate) fn no_numbers() -> Numbers
     }
 }
 
-// How many numbers of the list are below `x`: the place where `x` stands or belongs.
-pub(crate) fn place_of(list: Numbers, x: u32) -> usize
-    requires { ⌜ soundList list ≡ true ⌝ }
-    ensures { λ r. ⌜ r ≡ below x (listed list) ⌝ }
+// How many of the first `len` numbers are below `x`: the place where `x` stands or belongs. A list's numbers are lent, since a search copies nothing.
+pub(crate) fn place_in(at: &[u32; MAX_NUMBERS], len: usize, x: u32) -> usize
+    requires { ⌜ soundList (record { len = len; at = now at }) ≡ true ⌝ }
+    ensures { λ r. ⌜ r ≡ below x (listed (record { len = len; at = now (at .entry) })) ⌝ }
 {
     let mut low = 0;
-    let mut high = list.len;
+    let mut high = len;
     while low < high {
         let middle = (low + high) / 2;
-        if list.at[middle] < x {
+        if at[middle] < x {
             low = middle + 1;
         } else {
             high = middle;
@@ -44,13 +44,42 @@ pub(crate) fn place_of(list: Numbers, x: u32) -> usize
     low
 }
 
+// The same, by a look at a likely place first: directories mostly go by rising senders.
+pub(crate) fn place_near(at: &[u32; MAX_NUMBERS], len: usize, x: u32, guess: usize) -> usize
+    requires { ⌜ soundList (record { len = len; at = now at }) ≡ true ⌝ }
+    ensures { λ r. ⌜ r ≡ below x (listed (record { len = len; at = now (at .entry) })) ⌝ }
+{
+    if guess < len {
+        if at[guess] == x {
+            return guess;
+        }
+    }
+    place_in(at, len, x)
+}
+
+// Whether `x` stands at its place `i`.
+pub(crate) fn has_at(at: &[u32; MAX_NUMBERS], len: usize, i: usize, x: u32) -> bool
+    requires { ⌜ (soundList (record { len = len; at = now at }) ≡ true) × (i ≡ below x (listed (record { len = len; at = now at }))) ⌝ }
+    ensures { λ r. ⌜ r ≡ mem x (listed (record { len = len; at = now (at .entry) })) ⌝ }
+{
+    if i < len { at[i] == x } else { false }
+}
+
+pub(crate) fn place_of(list: Numbers, x: u32) -> usize
+    requires { ⌜ soundList list ≡ true ⌝ }
+    ensures { λ r. ⌜ r ≡ below x (listed list) ⌝ }
+{
+    let at = list.at;
+    place_in(&at, list.len, x)
+}
+
 pub(crate) fn has(list: Numbers, x: u32) -> bool
     requires { ⌜ soundList list ≡ true ⌝ }
     ensures { λ r. ⌜ r ≡ mem x (listed list) ⌝ }
 {
-    let len = list.len;
-    let i = place_of(list, x);
-    if i < len { list.at[i] == x } else { false }
+    let at = list.at;
+    let i = place_in(&at, list.len, x);
+    has_at(&at, list.len, i, x)
 }
 
 // The list with `x` at place `to`, the numbers from there on one place further.

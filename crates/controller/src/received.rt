@@ -13,10 +13,10 @@ ghost use Rattle.controller.specs.Received.{senders, readIn, received, f
 ghost use Rattle.controller.specs.Refusals.{sendersFit};
 ghost use Rattle.controller.specs.Storage.{grown, Ready, saidUnder, saysRead, opinionRead, CountsBits};
 use crate::lists::Grown;
-use crate::lists::has;
+use crate::lists::has_at;
 use crate::lists::insert;
 use crate::lists::no_numbers;
-use crate::lists::place_of;
+use crate::lists::place_near;
 use crate::state::State;
 use wire::frame::Frame;
 use wire::frame::FrameRead;
@@ -69,10 +69,13 @@ pub(crate) fn heard_with(tray: &[u8], heard: Numbers) -> Grown
 {
     let count = entry_count(tray);
     let mut list = heard;
+    let mut next = 0;
     let mut i = 0;
     while i < count {
         let x = entry_sender(tray, i);
-        if has(list, x) {
+        let place = place_near(&list.at, list.len, x, next);
+        next = place + 1;
+        if has_at(&list.at, list.len, place, x) {
             i += 1;
         } else {
             let more = insert(list, x);
@@ -98,10 +101,12 @@ pub(crate) fn first_entries(tray: &[u8], heard: Numbers) -> Firsts
 {
     let count = entry_count(tray);
     let mut at = [count; MAX_NUMBERS];
+    let mut next = 0;
     let mut i = count;
     while 0 < i {
         i -= 1;
-        let j = place_of(heard, entry_sender(tray, i));
+        let j = place_near(&heard.at, heard.len, entry_sender(tray, i), next);
+        next = (j + MAX_NUMBERS - 1) % MAX_NUMBERS;
         if j < MAX_NUMBERS {
             at[j] = i;
         }

@@ -16,6 +16,7 @@ use lib.Seq.{getD-set-same, getD-set-other}
 use Rattle.controller.specs.Laws.Lists.{count-short, rising-place, rising-at}
 use Rattle.controller.specs.Laws.Received.{sender-in}
 use Rattle.controller.specs.Laws.State.{sound-list-gives}
+use Rattle.controller.specs.Laws.Storage.{below-length}
 use Rattle.controller.specs.Lists.{In, Rising}
 use Rattle.controller.specs.Storage.{below}
 use Rattle.wire.specs.Laws.Tray.{directory-holds}
@@ -72,17 +73,17 @@ module _ (b l at : List ℕ) (n i p : ℕ) (packed : wellFormed b ≡ true) (cou
   ]
 
 abbrev Inv-loop : tie.InvT-loop
-Inv-loop tray heard count at₀ i₀ at i = (i ≤ count) × (length at ≡ maxNumbers) × Firsts tray (listed heard) count at i
+Inv-loop tray heard count at₀ next₀ i₀ at next i = (i ≤ count) × (length at ≡ maxNumbers) × Firsts tray (listed heard) count at i
 
 abbrev μ-loop : tie.MeasureT-loop
-μ-loop tray heard count at₀ i₀ at i = i
+μ-loop tray heard count at₀ next₀ i₀ at next i = i
 
 entry-count-requires : tie.Need-entry-count-requires Inv-loop μ-loop
 entry-count-requires c κs = search needs
 
 loop-holds : tie.Need-loop-holds Inv-loop μ-loop
 loop-holds c =
-    let heard = c .before .before .args .heard in
+    let heard = c .before .before .args .t2 in
     let few = sound-list-gives heard (c .before .before .pre .1) .list .short in
     (search needs, refl, starts (now (c .before .before .args .tray)) (listed heard) (c .entry-count .result) (c .entry-count .ensures) few)
 
@@ -92,8 +93,21 @@ sub-i c = search needs
 entry-sender-requires : tie.Need-entry-sender-requires Inv-loop μ-loop
 entry-sender-requires c κs = search needs
 
-place-of-requires : tie.Need-place-of-requires Inv-loop μ-loop
-place-of-requires c κs = c .before .before .before .before .before .pre .1
+place-near-requires : tie.Need-place-near-requires Inv-loop μ-loop
+place-near-requires c κs = c .before .before .before .before .before .before .before .pre .1
+
+-- a place is at most the list's length
+place-small : (c : tie.After-place-near Inv-loop μ-loop) → c .place-near .result ≤ maxNumbers
+place-small c =
+    let start = c .before .before .before .before .before .before .before .before in
+    let heard = start .args .t2 in
+    omega (arith, c .place-near .ensures, below-length (c .before .entry-sender .result) (listed heard), sound-list-gives heard (start .pre .1) .list .short)
+
+add-next : tie.Need-add-next Inv-loop μ-loop
+add-next c = omega (arith, place-small c)
+
+sub-next : tie.Need-sub-next Inv-loop μ-loop
+sub-next c = omega (arith, place-small c)
 
 mul-at : tie.Need-mul-at Inv-loop μ-loop
 mul-at c = search needs
@@ -106,23 +120,23 @@ loop-less c = search needs
 
 loop-again : tie.Need-loop-again Inv-loop μ-loop
 loop-again c =
-    let v = c .before .before .before .before .loop in
-    let a = c .before .before .before .before .before .before .before .args in
+    let v = c .before .before .before .before .before .before .loop in
+    let a = c .before .before .before .before .before .before .before .before .before .args in
     let b = now (a .tray) in
-    let l = listed (a .heard) in
-    let n = c .before .before .before .before .before .entry-count .result in
+    let l = listed (a .t2) in
+    let n = c .before .before .before .before .before .before .before .entry-count .result in
     let i = v .i - 1 in
-    let given = c .before .before .before .before .before .before .before .pre in
-    let was = sound-list-gives (a .heard) (given .1) in
-    let count : n ≡ entryCount b = c .before .before .before .before .before .entry-count .ensures in
-    let h : i < n = omega (arith, v .inv .0, c .before .before .before .loop-test .taken) in
+    let given = c .before .before .before .before .before .before .before .before .before .pre in
+    let was = sound-list-gives (a .t2) (given .1) in
+    let count : n ≡ entryCount b = c .before .before .before .before .before .before .before .entry-count .ensures in
+    let h : i < n = omega (arith, v .inv .0, c .before .before .before .before .before .loop-test .taken) in
     let heard : In (sender b i) l = given .2 (sender b i) (sender-in b i (omega arith)) in
-    let here : c .before .place-of .result ≡ below (sender b i) l = c .before .place-of .ensures ∙ ap (λ x. below x l) (c .before .before .entry-sender .ensures) in
-    let back : v .i ≡ i + 1 = omega (arith, c .before .before .before .loop-test .taken) in
+    let here : c .before .place-near .result ≡ below (sender b i) l = c .before .place-near .ensures ∙ ap (λ x. below x l) (c .before .before .entry-sender .ensures) in
+    let back : v .i ≡ i + 1 = omega (arith, c .before .before .before .before .before .loop-test .taken) in
     let room : length l ≤ length (v .at) = omega (arith, was .list .short, v .inv .1) in (
       omega arith,
       simp length-set (v .inv .1),
-      turn b l (v .at) n i (c .before .place-of .result) (given .0) count h (was .list .rises) heard room here (subst (Firsts b l n (v .at)) back (v .inv .2)),
+      turn b l (v .at) n i (c .before .place-near .result) (given .0) count h (was .list .rises) heard room here (subst (Firsts b l n (v .at)) back (v .inv .2)),
     )
 
 loop-less-2 : tie.Need-loop-less-2 Inv-loop μ-loop
@@ -130,13 +144,13 @@ loop-less-2 c = search needs
 
 loop-again-2 : tie.Need-loop-again-2 Inv-loop μ-loop
 loop-again-2 c =
-    let v = c .before .before .before .before .loop in
-    let a = c .before .before .before .before .before .before .before .args in
-    let given = c .before .before .before .before .before .before .before .pre in
-    let was = sound-list-gives (a .heard) (given .1) in
-    let h : v .i - 1 < entryCount (now (a .tray)) = omega (arith, v .inv .0, c .before .before .before .loop-test .taken, c .before .before .before .before .before .entry-count .ensures) in
-    let heard : In (c .before .before .entry-sender .result) (listed (a .heard)) = rw (c .before .before .entry-sender .ensures) (given .2 _ (sender-in (now (a .tray)) (v .i - 1) h)) in
-    absurd (omega (arith, c .if1 .left, c .before .place-of .ensures, was .list .short, below-short (listed (a .heard)) (was .list .rises) _ heard))
+    let v = c .before .before .before .before .before .before .loop in
+    let a = c .before .before .before .before .before .before .before .before .before .args in
+    let given = c .before .before .before .before .before .before .before .before .before .pre in
+    let was = sound-list-gives (a .t2) (given .1) in
+    let h : v .i - 1 < entryCount (now (a .tray)) = omega (arith, v .inv .0, c .before .before .before .before .before .loop-test .taken, c .before .before .before .before .before .before .before .entry-count .ensures) in
+    let heard : In (c .before .before .entry-sender .result) (listed (a .t2)) = rw (c .before .before .entry-sender .ensures) (given .2 _ (sender-in (now (a .tray)) (v .i - 1) h)) in
+    absurd (omega (arith, c .if1 .left, c .before .place-near .ensures, was .list .short, below-short (listed (a .t2)) (was .list .rises) _ heard))
 
 returns : tie.Need-returns Inv-loop μ-loop
 unfolding entries
@@ -147,8 +161,8 @@ returns c =
     let n = c .before .before .entry-count .result in
     let none-before : v .i ≡ 0 = omega (arith, c .loop-test .left) in
     let count : n - 0 ≡ entryCount b = sub-zero n ∙ c .before .before .entry-count .ensures in
-    let all : Firsts b (listed (a .heard)) n (v .at) 0 = subst (Firsts b (listed (a .heard)) n (v .at)) none-before (v .inv .2) in
-    λ j h. rw count at (all j (omega (arith, sound-list-gives (a .heard) (c .before .before .before .before .pre .1) .used)))
+    let all : Firsts b (listed (a .t2)) n (v .at) 0 = subst (Firsts b (listed (a .t2)) n (v .at)) none-before (v .inv .2) in
+    λ j h. rw count at (all j (omega (arith, sound-list-gives (a .t2) (c .before .before .before .before .pre .1) .used)))
 
 pub first-entries-spec : {M : Type 1} → statement M
 first-entries-spec =
@@ -160,7 +174,9 @@ first-entries-spec =
     loop-holds
     sub-i
     entry-sender-requires
-    place-of-requires
+    place-near-requires
+    add-next
+    sub-next
     mul-at
     array-write-at
     loop-less

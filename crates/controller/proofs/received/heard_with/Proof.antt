@@ -10,7 +10,7 @@ use native.Mathlib.Omega.{arith}
 use borrow.Author.Needs.{needs}
 use denote.Ref.{now}
 use lib.ListN.{length}
-use Rattle.controller.specs.Laws.Storage.{grown-fits, grown-full, fits-gives, long-gives}
+use Rattle.controller.specs.Laws.Storage.{below-length, grown-fits, grown-full, fits-gives, long-gives}
 use Rattle.controller.specs.Laws.Lists.{inside-length, rising-no-repeats, mem-in, insert-in, insert-known, insert-rising, insert-all-in, insert-all-insert}
 use Rattle.controller.specs.Laws.Received.{senders-step, sender-in}
 use Rattle.controller.specs.Laws.State.{SoundList, sound-list-gives, sound-list-test}
@@ -85,10 +85,10 @@ whole list heard l s e =
     grown-fits l heard _ short same
 
 abbrev Inv-loop : tie.InvT-loop
-Inv-loop tray heard count list₀ i₀ list i = (i ≤ count) × (soundList list ≡ true) × (insertAll (rest tray count i) (listed list) ≡ insertAll (senders (entries tray)) (listed heard))
+Inv-loop tray heard count list₀ next₀ i₀ list next i = (i ≤ count) × (soundList list ≡ true) × (insertAll (rest tray count i) (listed list) ≡ insertAll (senders (entries tray)) (listed heard))
 
 abbrev μ-loop : tie.MeasureT-loop
-μ-loop tray heard count list₀ i₀ list i = count - i
+μ-loop tray heard count list₀ next₀ i₀ list next i = count - i
 
 entry-count-requires : tie.Need-entry-count-requires Inv-loop μ-loop
 entry-count-requires c κs = search needs
@@ -100,8 +100,23 @@ loop-holds c = (search needs, c .before .before .pre .1, rw (c .entry-count .ens
 entry-sender-requires : tie.Need-entry-sender-requires Inv-loop μ-loop
 entry-sender-requires c κs = search needs
 
-has-requires : tie.Need-has-requires Inv-loop μ-loop
-has-requires c κs = c .before .before .loop .inv .1
+place-near-requires : tie.Need-place-near-requires Inv-loop μ-loop
+place-near-requires c κs = c .before .before .before .before .loop .inv .1
+
+-- the turn that asks for a sender, and the state before the loop
+abbrev turn : tie.After-has-at Inv-loop μ-loop → tie.In-loop Inv-loop μ-loop
+turn c = c .before .before .before .before .before .before .before
+
+abbrev outside : tie.In-loop Inv-loop μ-loop → tie.After-entry-count Inv-loop μ-loop
+outside c = c .before .before
+
+add-next : tie.Need-add-next Inv-loop μ-loop
+add-next c =
+    let list = c .before .before .before .before .before .loop .list in
+    omega (arith, c .place-near .ensures, below-length (c .before .before .before .entry-sender .result) (listed list), sound-list-gives list (c .before .before .before .before .before .loop .inv .1) .list .short)
+
+has-at-requires : tie.Need-has-at-requires Inv-loop μ-loop
+has-at-requires c κs = (c .before .before .before .before .before .before .before .loop .inv .1, c .before .before .place-near .ensures)
 
 add-i : tie.Need-add-i Inv-loop μ-loop
 add-i c = search needs
@@ -111,19 +126,18 @@ loop-less c = search needs
 
 loop-again : tie.Need-loop-again Inv-loop μ-loop
 loop-again c =
-    let v = c .before .before .before .before .loop in
-    let b = now (c .before .before .before .before .before .before .before .args .tray) in
-    let n = c .before .before .before .before .before .entry-count .result in
-    let x = c .before .before .entry-sender .result in
-    let h = c .before .before .before .loop-test .taken in
-    let there = mem-in (listed (v .list)) (sym (c .before .has .ensures) ∙ c .if1 .taken) in (
+    let at = turn (c .before) in
+    let v = at .before .loop in
+    let n = outside at .entry-count .result in
+    let sent = c .before .before .before .before .before .before .before .entry-sender in
+    let there = mem-in (listed (v .list)) (sym (c .before .has-at .ensures) ∙ c .if1 .taken) in (
       search needs,
       v .inv .1,
-      known b n (v .i) x (v .list) h (c .before .before .entry-sender .ensures) (v .inv .1) there ∙ v .inv .2,
+      known (now (outside at .before .before .args .tray)) n (v .i) (sent .result) (v .list) (at .loop-test .taken) (sent .ensures) (v .inv .1) there ∙ v .inv .2,
     )
 
 insert-requires : tie.Need-insert-requires Inv-loop μ-loop
-insert-requires c κs = c .before .before .before .before .loop .inv .1
+insert-requires c κs = turn (c .before) .before .loop .inv .1
 
 add-i-2 : tie.Need-add-i-2 Inv-loop μ-loop
 add-i-2 c = search needs
@@ -133,27 +147,30 @@ loop-less-2 c = search needs
 
 loop-again-2 : tie.Need-loop-again-2 Inv-loop μ-loop
 loop-again-2 c =
-    let v = c .before .before .before .before .before .before .before .loop in
-    let b = now (c .before .before .before .before .before .before .before .before .before .before .args .tray) in
-    let n = c .before .before .before .before .before .before .before .before .entry-count .result in
-    let x = c .before .before .before .before .before .entry-sender .result in
-    let e = c .before .before .before .before .before .entry-sender .ensures in
-    let h = c .before .before .before .before .before .before .loop-test .taken in
-    let g = c .before .before .insert .result in
-    let above = positive b n (v .i) x (c .before .before .before .before .before .before .before .before .before .before .pre .2) (c .before .before .before .before .before .before .before .before .entry-count .ensures) h e in (
+    let at = turn (c .before .before .before .before) in
+    let v = at .before .loop in
+    let b = now (outside at .before .before .args .tray) in
+    let n = outside at .entry-count .result in
+    let sent = c .before .before .before .before .before .before .before .before .before .before .entry-sender in
+    let x = sent .result in
+    let h = at .loop-test .taken in
+    let g = c .before .before .insert in
+    let above = positive b n (v .i) x (outside at .before .before .pre .2) (outside at .entry-count .ensures) h (sent .ensures) in (
       search needs,
-      stays-sound b n (v .i) x (v .list) h e (v .inv .1) g (c .before .before .insert .ensures) (c .before .if2 .taken) above,
-      left b n (v .i) x (v .list) h e (v .inv .1) g (c .before .before .insert .ensures) (c .before .if2 .taken) ∙ v .inv .2,
+      stays-sound b n (v .i) x (v .list) h (sent .ensures) (v .inv .1) (g .result) (g .ensures) (c .before .if2 .taken) above,
+      left b n (v .i) x (v .list) h (sent .ensures) (v .inv .1) (g .result) (g .ensures) (c .before .if2 .taken) ∙ v .inv .2,
     )
 
 returns : tie.Need-returns Inv-loop μ-loop
 returns c =
-    let v = c .before .before .before .before .before .before .loop in
-    let a = c .before .before .before .before .before .before .before .before .before .args in
-    let x = c .before .before .before .before .entry-sender .result in
+    let at = turn (c .before .before .before) in
+    let v = at .before .loop in
+    let a = outside at .before .before .args in
+    let sent = c .before .before .before .before .before .before .before .before .before .entry-sender in
+    let x = sent .result in
     let all = insertAll (senders (entries (now (a .tray)))) (listed (a .heard)) in
     let long : maxNumbers < length (insert x (listed (v .list))) = long-gives _ (v .list) (c .before .insert .result) (c .before .insert .ensures) (c .if2 .left) in
-    let more = longer (now (a .tray)) (c .before .before .before .before .before .before .before .entry-count .result) (v .i) x (v .list) (c .before .before .before .before .before .loop-test .taken) (c .before .before .before .before .entry-sender .ensures) (v .inv .1) in
+    let more = longer (now (a .tray)) (outside at .entry-count .result) (v .i) x (v .list) (at .loop-test .taken) (sent .ensures) (v .inv .1) in
     grown-full all (a .heard) (omega (arith, ap length (v .inv .2)))
 
 returns-2 : tie.Need-returns-2 Inv-loop μ-loop
@@ -171,7 +188,9 @@ heard-with-spec =
     entry-count-requires
     loop-holds
     entry-sender-requires
-    has-requires
+    place-near-requires
+    add-next
+    has-at-requires
     add-i
     loop-less
     loop-again

@@ -1,8 +1,9 @@
--- `controller::lists::place_of` meets its contract: the place lies between the two ends all the time, since in a rising list a number below x is before it and one that is not is not.
+-- `controller::lists::place_in` meets its contract: the place lies between the two ends all the time, since in a rising list a number below x is before it and one that is not is not.
 use Prim.Native.Nat.{ℕ, _+_, _-_, _/_, _≤_, _<_}
 use mathlib.Core.Path.{_≡_}
 use native.Mathlib.Omega.{arith}
 use borrow.Author.Needs.{needs}
+use denote.Ref.{now}
 use lib.ListN.{getD}
 use lib.Seq.{getD-take}
 use Rattle.wire.specs.Limits.{maxNumbers}
@@ -11,14 +12,18 @@ use Rattle.controller.specs.Laws.State.{ListTests, sound-list-gives}
 use Rattle.controller.specs.Laws.Storage.{below-past, below-within, below-length}
 use Rattle.controller.specs.Storage.{below}
 use Rattle.wire.specs.declared.frame.Numbers.{Numbers}
-use Rattle.controller.proofs.lists.place_of.Statement.{statement}
-use Rattle.controller.proofs.lists.place_of.Tie as tie
+use Rattle.controller.proofs.lists.place_in.Statement.{statement}
+use Rattle.controller.proofs.lists.place_in.Tie as tie
 
 abbrev Inv-loop : tie.InvT-loop
-Inv-loop x list low₀ high₀ low high = (high ≤ list .len) × (list .len ≤ maxNumbers) × (low ≤ below x (listed list)) × (below x (listed list) ≤ high)
+Inv-loop at len x low₀ high₀ low high =
+    (high ≤ len)
+    × (len ≤ maxNumbers)
+    × (low ≤ below x (listed (record { len = len; at = at })))
+    × (below x (listed (record { len = len; at = at })) ≤ high)
 
 abbrev μ-loop : tie.MeasureT-loop
-μ-loop x list low₀ high₀ low high = high - low
+μ-loop at len x low₀ high₀ low high = high - low
 
 module _ (n : Numbers) (x i : ℕ) (t : ListTests n) (h : i < n .len) where
   here : getD (listed n) i 0 ≡ getD (n .at) i 0
@@ -30,14 +35,18 @@ module _ (n : Numbers) (x i : ℕ) (t : ListTests n) (h : i < n .len) where
   within : x ≤ getD (n .at) i 0 → below x (listed n) ≤ i
   within le = below-within x (listed n) i (t .list .rises) (rw (t .used) h) (rw here le)
 
+-- the list that is lent
+abbrev list : tie.Start Inv-loop μ-loop → Numbers
+list c = record { len = c .args .len; at = now (c .args .at) }
+
 loop-holds : tie.Need-loop-holds Inv-loop μ-loop
 loop-holds c =
-    let n = c .args .t1 in
+    let n = list c in
     let t = sound-list-gives n (c .pre) in
     (omega arith, rw (← t .used) (t .list .short), omega arith, omega (arith, t .used, below-length (c .args .x) (listed n)))
 
 -- what is looked at is one of the list
-middle : (c : tie.In-loop Inv-loop μ-loop) → (c .before .loop .low + c .before .loop .high) / 2 < c .before .before .args .t1 .len
+middle : (c : tie.In-loop Inv-loop μ-loop) → (c .before .loop .low + c .before .loop .high) / 2 < c .before .before .args .len
 middle c = omega (arith, c .loop-test .taken, c .before .loop .inv .0)
 
 add-middle : tie.Need-add-middle Inv-loop μ-loop
@@ -58,7 +67,7 @@ loop-less c = omega (arith, c .before .before .loop-test .taken)
 loop-again : tie.Need-loop-again Inv-loop μ-loop
 loop-again c =
     let v = c .before .before .before .loop in
-    let n = c .before .before .before .before .args .t1 in
+    let n = list (c .before .before .before .before) in
     let more = past n (c .before .before .before .before .args .x) _ (sound-list-gives n (c .before .before .before .before .pre)) (middle (c .before .before)) (c .if1 .taken) in
     (v .inv .0, v .inv .1, omega (arith, more), v .inv .3)
 
@@ -68,15 +77,15 @@ loop-less-2 c = omega (arith, c .before .before .loop-test .taken)
 loop-again-2 : tie.Need-loop-again-2 Inv-loop μ-loop
 loop-again-2 c =
     let v = c .before .before .before .loop in
-    let n = c .before .before .before .before .args .t1 in
+    let n = list (c .before .before .before .before) in
     let most = within n (c .before .before .before .before .args .x) _ (sound-list-gives n (c .before .before .before .before .pre)) (middle (c .before .before)) (c .if1 .left) in
     (omega (arith, middle (c .before .before)), v .inv .1, v .inv .2, most)
 
 returns : tie.Need-returns Inv-loop μ-loop
 returns c = omega (arith, c .loop-test .left, c .before .loop .inv .2, c .before .loop .inv .3)
 
-pub place-of-spec : {M : Type 1} → statement M
-place-of-spec =
+pub place-in-spec : {M : Type 1} → statement M
+place-in-spec =
     tie.close
     (tie.spec
     Inv-loop
