@@ -1,0 +1,2 @@
+-- What several proofs of the crate share.
+pub mod Stores

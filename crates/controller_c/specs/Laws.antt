@@ -1,0 +1,2 @@
+-- Laws of images.
+use Prim.Native.Nat.{ℕ}
