@@ -5,7 +5,8 @@
 --     listAt b at               the list that stands in b from at on
 --     takenApart b              the state in the bytes b
 --     zeros l                   each number of l is 0
---     soundImage b              the bytes are an image, and the state in it is sound
+--     shaped b                  the bytes are as many as an image has, and the reserved ones are 0
+--     soundImage b              so they are, and the state in them is sound
 use Prim.Native.Nat.{ℕ, _+_, _-_}
 use mathlib.Core.Bool.{Bool, true, _&&_}
 use mathlib.Core.List.{List, [], _∷_, _++_}
@@ -113,5 +114,9 @@ abbrev pub zeros : List ℕ → Bool
 zeros [] = true
 zeros (x ∷ l) = eqb x 0 && zeros l
 
+-- what is tested before the state
+unfoldable pub shaped : List ℕ → Bool
+shaped b = eqb (length b) imageBytes && zeros (drop reservedAt b)
+
 unfoldable pub soundImage : List ℕ → Bool
-soundImage b = eqb (length b) imageBytes && zeros (drop reservedAt b) && sound (takenApart b)
+soundImage b = shaped b && sound (takenApart b)

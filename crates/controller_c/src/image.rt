@@ -1,14 +1,13 @@
 // A state and its image: 1,024 bytes, laid out as docs/IMAGE.md has them.
-ghost use mathlib.Core.Bool.{true, _&&_};
+ghost use mathlib.Core.Bool.{true};
 ghost use mathlib.Core.Path.{_≡_};
 ghost use Prim.Native.Nat.{_+_, _*_, _≤_};
-ghost use lib.Dec.{eqb};
 ghost use lib.ListN.{length, drop};
 ghost use lib.Seq.{sets};
 ghost use Rattle.wire.specs.Limits.{maxNumbers, numberWidth};
 ghost use Rattle.wire.specs.Words.{wordsBytes};
 ghost use Rattle.controller.specs.State.{sound};
-ghost use Rattle.controller_c.specs.Image.{imageBytes, reservedAt, heardAt, countBytes, listWidth, headBytes, listBytes, zerosFrom, laidOut, placesAt, listAt, takenApart, zeros, soundImage};
+ghost use Rattle.controller_c.specs.Image.{imageBytes, heardAt, candidatesAt, echoesAt, reservedAt, listWidth, headBytes, listBytes, zerosFrom, laidOut, placesAt, listAt, takenApart, zeros, shaped, soundImage};
 use controller::sound::is_sound;
 use controller::state::State;
 use crate::layout::BIT_AT;
@@ -94,9 +93,9 @@ fn reserved_zero(image: &[u8]) -> bool
     zero
 }
 
-// Whether the bytes are as long as an image and have its reserved bytes 0: what is left to test is the state.
-pub(crate) fn is_image(image: &[u8]) -> bool
-    ensures { λ r. ⌜ r ≡ (eqb (length (now (image .entry))) imageBytes && zeros (drop reservedAt (now (image .entry)))) ⌝ }
+// What is left to test is the state.
+pub(crate) fn is_shaped(image: &[u8]) -> bool
+    ensures { λ r. ⌜ r ≡ shaped (now (image .entry)) ⌝ }
 {
     if image.len() == IMAGE_BYTES {
         reserved_zero(image)
@@ -108,7 +107,7 @@ pub(crate) fn is_image(image: &[u8]) -> bool
 pub(crate) fn is_sound_image(image: &[u8]) -> bool
     ensures { λ r. ⌜ r ≡ soundImage (now (image .entry)) ⌝ }
 {
-    if is_image(image) {
+    if is_shaped(image) {
         is_sound(take_apart(image))
     } else {
         false
@@ -160,17 +159,24 @@ fn put_zeros(image: &mut [u8])
     }
 }
 
+fn put_lists(image: &mut [u8], state: State)
+    requires { ⌜ (sound state ≡ true) × (reservedAt ≤ length (now image)) ⌝ }
+    ensures { λ r. ⌜ now (image .exit) ≡ sets (sets (sets (now (image .entry)) heardAt (listBytes (state .heard))) candidatesAt (listBytes (state .candidates))) echoesAt (listBytes (state .echoes)) ⌝ }
+{
+    let heard = state.heard;
+    let candidates = state.candidates;
+    let echoes = state.echoes;
+    put_list(image, HEARD_AT, heard);
+    put_list(image, CANDIDATES_AT, candidates);
+    put_list(image, ECHOES_AT, echoes);
+}
+
 // Every byte of the image, from a sound state.
 pub(crate) fn lay_out(state: State, image: &mut [u8])
     requires { ⌜ (sound state ≡ true) × (length (now image) ≡ imageBytes) ⌝ }
     ensures { λ r. ⌜ now (image .exit) ≡ laidOut state ⌝ }
 {
-    let heard = state.heard;
-    let candidates = state.candidates;
-    let echoes = state.echoes;
     put_head(image, state);
-    put_list(image, HEARD_AT, heard);
-    put_list(image, CANDIDATES_AT, candidates);
-    put_list(image, ECHOES_AT, echoes);
+    put_lists(image, state);
     put_zeros(image);
 }

@@ -8,7 +8,7 @@ ghost use Rattle.controller_c.specs.Calls.{StartImagePromise, TrayImageP
 ghost use Rattle.controller_c.specs.Image.{echoesAt, soundImage, takenApart};
 use controller::calls::start;
 use controller::state::Answer;
-use crate::image::is_image;
+use crate::image::is_shaped;
 use crate::image::is_sound_image;
 use crate::image::lay_out;
 use crate::image::take_apart;
@@ -57,7 +57,7 @@ pub extern "C" fn controller_start(number: u32, bit: u8, image: &mut [u8], out: 
 pub extern "C" fn controller_tray(image: &mut [u8], tray: &[u8], out: &mut [u8], written: &mut usize) -> u8
     ensures { λ r. ⌜ TrayImagePromise (now (image .entry)) (now (tray .entry)) (now (out .entry)) r (now (image .exit)) (now (out .exit)) (now (written .exit)) ⌝ }
 {
-    if is_image(image) {
+    if is_shaped(image) {
         hand_over(controller::calls::tray(take_apart(image), tray, out), image, written)
     } else {
         *written = 0;

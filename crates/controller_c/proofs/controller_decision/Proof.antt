@@ -1,25 +1,28 @@
+-- `controller_c::controller_decision` meets its contract: a sound image is long enough to have the decision.
 use borrow.Author.Needs.{needs}
+use mathlib.Core.Bool.{true}
+use mathlib.Core.Path.{_≡_, sym, _∙_}
+use native.Mathlib.Omega.{arith}
+use denote.Ref.{now}
+use Rattle.controller_c.specs.Image.{soundImage}
+use Rattle.controller_c.specs.Laws.{sound-image-gives}
 use Rattle.controller_c.proofs.controller_decision.Statement.{statement}
 use Rattle.controller_c.proofs.controller_decision.Tie as tie
-use Rattle.controller_c.proofs.controller_decision.Reads as reads
-use Rattle.controller_c.proofs.controller_decision.Lts as lts
-use Rattle.controller_c.proofs.image.is_sound_image.Reads as is-sound-image-reads
 
--- src/lib.rt:73:8
+found : (c : tie.Then1) → soundImage (now (c .before .before .before .args .image)) ≡ true
+found c = sym (c .before .is-sound-image .ensures) ∙ c .if1 .taken
+
 is-sound-image-requires : tie.Need-is-sound-image-requires
 is-sound-image-requires c κs = search needs
 
--- src/lib.rt:74:9
 shared-slice-read-result : tie.Need-shared-slice-read-result
-shared-slice-read-result c = ?
+shared-slice-read-result c = omega (arith, sound-image-gives _ (found (c .before)) .whole)
 
--- src/lib.rt:69:1
 returns : tie.Need-returns
-returns c = ?
+returns c = rw (found (c .before))
 
--- src/lib.rt:69:1
 returns-2 : tie.Need-returns-2
-returns-2 c = ?
+returns-2 c = rw (sym (c .before .is-sound-image .ensures) ∙ c .if1 .left)
 
 pub controller-decision-spec : {M : Type 1} → statement M
 controller-decision-spec =

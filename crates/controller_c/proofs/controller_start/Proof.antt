@@ -1,34 +1,36 @@
+-- `controller_c::controller_start` meets its contract: an image of the right length leaves the refusal to the controller's start, whose answer is handed over.
 use borrow.Author.Needs.{needs}
+use borrow.Author.Tests.{eq-eqb, ne-eqb}
+use Rattle.controller_c.specs.Image.{imageBytes}
+use Rattle.controller_c.specs.Laws.{start-makes}
+use Rattle.controller_c.proofs.Promises.{made-sound, promise-handed, promise-refused}
 use Rattle.controller_c.proofs.controller_start.Statement.{statement}
 use Rattle.controller_c.proofs.controller_start.Tie as tie
-use Rattle.controller_c.proofs.controller_start.Reads as reads
-use Rattle.controller_c.proofs.controller_start.Lts as lts
-use Rattle.controller.proofs.calls.start.Reads as start-reads
-use Rattle.controller_c.proofs.hand_over.Reads as hand-over-reads
 
--- src/lib.rt:48:19
 start-requires : tie.Need-start-requires
 start-requires c κs = search needs
 
--- src/lib.rt:48:9
 hand-over-requires : tie.Need-hand-over-requires
-hand-over-requires c κs = ?
+hand-over-requires c κs =
+    record {
+      whole = search needs;
+      made = made-sound _ _ _ _ _ _ (c .before .before .before .before .start .ensures) (start-makes _ _ _);
+    }
 
--- src/lib.rt:43:1
 same-length : tie.Need-same-length
 same-length c = search needs
 
--- src/lib.rt:43:1
 same-length-2 : tie.Need-same-length-2
 same-length-2 c = search needs
 
--- src/lib.rt:43:1
 returns : tie.Need-returns
-returns c = ?
+returns c =
+    promise-handed _ _ _ _ _ _ (c .before .before .before .before .before .before .before .start .ensures) _ _ _ _ _
+    (rw (eq-eqb _ imageBytes (c .before .before .before .before .before .before .before .before .before .if1 .taken)))
+    (c .before .before .hand-over .ensures)
 
--- src/lib.rt:43:1
 returns-2 : tie.Need-returns-2
-returns-2 c = ?
+returns-2 c = promise-refused _ _ _ _ (rw (ne-eqb _ imageBytes (c .if1 .left)))
 
 pub controller-start-spec : {M : Type 1} → statement M
 controller-start-spec =

@@ -1,54 +1,56 @@
+-- `controller_c::controller_tray` meets its contract: an image of the right shape leaves the refusal to the controller's tray, whose answer is handed over.
 use borrow.Author.Needs.{needs}
+use mathlib.Core.Bool.{true}
+use mathlib.Core.Path.{_≡_, sym, _∙_}
+use denote.Ref.{now}
+use Rattle.controller_c.specs.Image.{shaped}
+use Rattle.controller_c.specs.Laws.{shaped-length, shaped-refusal, unshaped-refusal, tray-makes}
+use Rattle.controller_c.proofs.Promises.{made-sound, promise-handed, promise-refused}
 use Rattle.controller_c.proofs.controller_tray.Statement.{statement}
 use Rattle.controller_c.proofs.controller_tray.Tie as tie
-use Rattle.controller_c.proofs.controller_tray.Reads as reads
-use Rattle.controller_c.proofs.controller_tray.Lts as lts
-use Rattle.controller.proofs.calls.tray.Reads as tray-reads
-use Rattle.controller_c.proofs.hand_over.Reads as hand-over-reads
-use Rattle.controller_c.proofs.image.is_image.Reads as is-image-reads
-use Rattle.controller_c.proofs.image.take_apart.Reads as take-apart-reads
 
--- src/lib.rt:60:8
-is-image-requires : tie.Need-is-image-requires
-is-image-requires c κs = search needs
+passed : (c : tie.Then1) → shaped (now (c .before .before .before .before .before .before .args .image)) ≡ true
+passed c = sym (c .before .is-shaped .ensures) ∙ c .if1 .taken
 
--- src/lib.rt:61:43
+is-shaped-requires : tie.Need-is-shaped-requires
+is-shaped-requires c κs = search needs
+
 take-apart-requires : tie.Need-take-apart-requires
-take-apart-requires c κs = ?
+take-apart-requires c κs = shaped-length _ (passed (c .before))
 
--- src/lib.rt:61:19
 tray-requires : tie.Need-tray-requires
 tray-requires c κs = search needs
 
--- src/lib.rt:61:9
 hand-over-requires : tie.Need-hand-over-requires
-hand-over-requires c κs = ?
+hand-over-requires c κs =
+    record {
+      whole = shaped-length _ (passed (c .before .before .before .before .before .before .before .before));
+      made = made-sound _ _ _ _ _ _ (c .before .before .before .before .tray .ensures) (tray-makes _ _ _);
+    }
 
--- src/lib.rt:56:1
 same-length : tie.Need-same-length
 same-length c = search needs
 
--- src/lib.rt:56:1
 same-length-2 : tie.Need-same-length-2
 same-length-2 c = search needs
 
--- src/lib.rt:56:1
 returns : tie.Need-returns
-returns c = ?
+returns c =
+    promise-handed _ _ _ _ _ _ (rw (c .before .before .before .before .before .before .before .before .before .take-apart .ensures) at (c .before .before .before .before .before .before .before .tray .ensures)) _ _ _ _ _
+    (shaped-refusal _ _ _ (passed (c .before .before .before .before .before .before .before .before .before .before .before)))
+    (c .before .before .hand-over .ensures)
 
--- src/lib.rt:56:1
 same-length-3 : tie.Need-same-length-3
 same-length-3 c = search needs
 
--- src/lib.rt:56:1
 returns-2 : tie.Need-returns-2
-returns-2 c = ?
+returns-2 c = promise-refused _ _ _ _ (unshaped-refusal _ _ _ (sym (c .before .is-shaped .ensures) ∙ c .if1 .left))
 
 pub controller-tray-spec : {M : Type 1} → statement M
 controller-tray-spec =
     tie.close
     (tie.spec
-    is-image-requires
+    is-shaped-requires
     take-apart-requires
     tray-requires
     hand-over-requires

@@ -1,26 +1,28 @@
+-- `controller_c::field` meets its contract: a sound image is long enough to have the number.
 use borrow.Author.Needs.{needs}
+use mathlib.Core.Bool.{true}
+use mathlib.Core.Path.{_≡_, sym, _∙_}
+use native.Mathlib.Omega.{arith}
+use denote.Ref.{now}
+use Rattle.controller_c.specs.Image.{soundImage}
+use Rattle.controller_c.specs.Laws.{sound-image-gives}
 use Rattle.controller_c.proofs.field.Statement.{statement}
 use Rattle.controller_c.proofs.field.Tie as tie
-use Rattle.controller_c.proofs.field.Reads as reads
-use Rattle.controller_c.proofs.field.Lts as lts
-use Rattle.controller_c.proofs.image.is_sound_image.Reads as is-sound-image-reads
-use Rattle.controller_c.proofs.word.word.Reads as word-reads
 
--- src/lib.rt:85:8
+found : (c : tie.Then1) → soundImage (now (c .before .before .before .args .image)) ≡ true
+found c = sym (c .before .is-sound-image .ensures) ∙ c .if1 .taken
+
 is-sound-image-requires : tie.Need-is-sound-image-requires
 is-sound-image-requires c κs = search needs
 
--- src/lib.rt:86:9
 word-requires : tie.Need-word-requires
-word-requires c κs = ?
+word-requires c κs = omega (arith, sound-image-gives _ (found c) .whole)
 
--- src/lib.rt:81:1
 returns : tie.Need-returns
-returns c = ?
+returns c = rw (found (c .before)) (c .word .ensures)
 
--- src/lib.rt:81:1
 returns-2 : tie.Need-returns-2
-returns-2 c = ?
+returns-2 c = rw (sym (c .before .is-sound-image .ensures) ∙ c .if1 .left)
 
 pub field-spec : {M : Type 1} → statement M
 field-spec = tie.close (tie.spec is-sound-image-requires word-requires returns returns-2)

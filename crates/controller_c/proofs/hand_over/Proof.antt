@@ -1,25 +1,22 @@
+-- `controller_c::hand_over` meets its contract: the state is laid out exactly if the answer's refusal is 0.
 use borrow.Author.Needs.{needs}
+use borrow.Author.Tests.{eq-eqb, ne-eqb}
 use Rattle.controller_c.proofs.hand_over.Statement.{statement}
 use Rattle.controller_c.proofs.hand_over.Tie as tie
-use Rattle.controller_c.proofs.hand_over.Reads as reads
-use Rattle.controller_c.proofs.hand_over.Lts as lts
-use Rattle.controller_c.proofs.image.lay_out.Reads as lay-out-reads
 
--- src/lib.rt:37:9
 lay-out-requires : tie.Need-lay-out-requires
-lay-out-requires c κs = ?
+lay-out-requires c κs = (c .before .before .before .before .pre .made (c .before .before .if1 .taken), c .before .before .before .before .pre .whole)
 
--- src/lib.rt:29:1
 same-length : tie.Need-same-length
 same-length c = search needs
 
--- src/lib.rt:29:1
 returns : tie.Need-returns
-returns c = ?
+returns c =
+    let t = c .before .before .before .before .before .if1 .taken in
+    record { number = search needs; image = rw (eq-eqb _ _ t) (c .before .before .lay-out .ensures); written = search needs }
 
--- src/lib.rt:29:1
 returns-2 : tie.Need-returns-2
-returns-2 c = ?
+returns-2 c = record { number = search needs; image = rw (ne-eqb _ _ (c .if1 .left)); written = search needs }
 
 pub hand-over-spec : {M : Type 1} → statement M
 hand-over-spec = tie.close (tie.spec lay-out-requires same-length returns returns-2)

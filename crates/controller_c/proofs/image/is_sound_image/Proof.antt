@@ -1,32 +1,29 @@
+-- `controller_c::image::is_sound_image` meets its contract: the two tests are those of `soundImage`, in its order.
 use borrow.Author.Needs.{needs}
+use mathlib.Core.Path.{sym, ap, _∙_}
+use Rattle.controller.specs.State.{sound}
+use Rattle.controller_c.specs.Image.{soundImage}
+use Rattle.controller_c.specs.Laws.{shaped-length}
 use Rattle.controller_c.proofs.image.is_sound_image.Statement.{statement}
 use Rattle.controller_c.proofs.image.is_sound_image.Tie as tie
-use Rattle.controller_c.proofs.image.is_sound_image.Reads as reads
-use Rattle.controller_c.proofs.image.is_sound_image.Lts as lts
-use Rattle.controller.proofs.sound.is_sound.Reads as is-sound-reads
-use Rattle.controller_c.proofs.image.is_image.Reads as is-image-reads
-use Rattle.controller_c.proofs.image.take_apart.Reads as take-apart-reads
 
--- src/image.rt:111:8
-is-image-requires : tie.Need-is-image-requires
-is-image-requires c κs = search needs
+is-shaped-requires : tie.Need-is-shaped-requires
+is-shaped-requires c κs = search needs
 
--- src/image.rt:112:18
 take-apart-requires : tie.Need-take-apart-requires
-take-apart-requires c κs = ?
+take-apart-requires c κs = shaped-length _ (sym (c .before .is-shaped .ensures) ∙ c .if1 .taken)
 
--- src/image.rt:112:9
 is-sound-requires : tie.Need-is-sound-requires
 is-sound-requires c κs = search needs
 
--- src/image.rt:108:1
 returns : tie.Need-returns
-returns c = ?
+unfolding soundImage
+returns c = rw (sym (c .before .before .before .is-shaped .ensures) ∙ c .before .before .if1 .taken) (c .is-sound .ensures ∙ ap sound (c .before .take-apart .ensures))
 
--- src/image.rt:108:1
 returns-2 : tie.Need-returns-2
-returns-2 c = ?
+unfolding soundImage
+returns-2 c = rw (sym (c .before .is-shaped .ensures) ∙ c .if1 .left)
 
 pub is-sound-image-spec : {M : Type 1} → statement M
 is-sound-image-spec =
-    tie.close (tie.spec is-image-requires take-apart-requires is-sound-requires returns returns-2)
+    tie.close (tie.spec is-shaped-requires take-apart-requires is-sound-requires returns returns-2)
