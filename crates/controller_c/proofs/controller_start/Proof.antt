@@ -2,7 +2,7 @@
 use borrow.Author.Needs.{needs}
 use borrow.Author.Tests.{eq-eqb, ne-eqb}
 use Rattle.controller_c.specs.Image.{imageBytes}
-use Rattle.controller_c.specs.Laws.{start-makes}
+use Rattle.controller_c.specs.Laws.Calls.{start-makes}
 use Rattle.controller_c.proofs.Promises.{made-sound, promise-handed, promise-refused}
 use Rattle.controller_c.proofs.controller_start.Statement.{statement}
 use Rattle.controller_c.proofs.controller_start.Tie as tie

@@ -4,7 +4,8 @@ use mathlib.Core.Bool.{true}
 use mathlib.Core.Path.{_≡_, sym, _∙_}
 use denote.Ref.{now}
 use Rattle.controller_c.specs.Image.{shaped}
-use Rattle.controller_c.specs.Laws.{shaped-length, shaped-refusal, unshaped-refusal, tray-makes}
+use Rattle.controller_c.specs.Laws.Calls.{shaped-refusal, unshaped-refusal, tray-makes}
+use Rattle.controller_c.specs.Laws.Image.{shaped-length}
 use Rattle.controller_c.proofs.Promises.{made-sound, promise-handed, promise-refused}
 use Rattle.controller_c.proofs.controller_tray.Statement.{statement}
 use Rattle.controller_c.proofs.controller_tray.Tie as tie

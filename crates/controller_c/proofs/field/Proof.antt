@@ -5,7 +5,7 @@ use mathlib.Core.Path.{_≡_, sym, _∙_}
 use native.Mathlib.Omega.{arith}
 use denote.Ref.{now}
 use Rattle.controller_c.specs.Image.{soundImage}
-use Rattle.controller_c.specs.Laws.{sound-image-gives}
+use Rattle.controller_c.specs.Laws.Image.{sound-image-gives}
 use Rattle.controller_c.proofs.field.Statement.{statement}
 use Rattle.controller_c.proofs.field.Tie as tie
 

@@ -3,7 +3,7 @@ use borrow.Author.Needs.{needs}
 use mathlib.Core.Path.{sym, ap, _∙_}
 use Rattle.controller.specs.State.{sound}
 use Rattle.controller_c.specs.Image.{soundImage}
-use Rattle.controller_c.specs.Laws.{shaped-length}
+use Rattle.controller_c.specs.Laws.Image.{shaped-length}
 use Rattle.controller_c.proofs.image.is_sound_image.Statement.{statement}
 use Rattle.controller_c.proofs.image.is_sound_image.Tie as tie
 

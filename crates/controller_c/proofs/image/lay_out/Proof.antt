@@ -9,7 +9,7 @@ use lib.ListN.{length}
 use lib.Seq.{sets}
 use Rattle.controller.specs.declared.state.State.{State}
 use Rattle.controller_c.specs.Image.{imageBytes, heardAt, candidatesAt, echoesAt, reservedAt, headBytes, listBytes, zerosFrom, laidOut}
-use Rattle.controller_c.specs.Laws.{SizedLists, sound-sized, list-bytes-length, laid-out-length}
+use Rattle.controller_c.specs.Laws.Image.{SizedLists, sound-sized, list-bytes-length, laid-out-length}
 use Rattle.controller_c.proofs.Stores.{sets-join, sets-whole}
 use Rattle.controller_c.proofs.image.lay_out.Statement.{statement}
 use Rattle.controller_c.proofs.image.lay_out.Tie as tie

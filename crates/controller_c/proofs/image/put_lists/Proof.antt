@@ -1,6 +1,6 @@
 -- `controller_c::image::put_lists` meets its contract: in a sound state each count is at most 64.
 use borrow.Author.Needs.{needs}
-use Rattle.controller_c.specs.Laws.{sound-sized}
+use Rattle.controller_c.specs.Laws.Image.{sound-sized}
 use Rattle.controller_c.proofs.image.put_lists.Statement.{statement}
 use Rattle.controller_c.proofs.image.put_lists.Tie as tie
 
