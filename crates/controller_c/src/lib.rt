@@ -39,6 +39,14 @@ fn hand_over(answer: Answer, image: &mut [u8], written: &mut usize) -> u8
     refusal
 }
 
+// Refuses what is no image, under 1.
+fn no_image(written: &mut usize) -> u8
+    ensures { λ r. ⌜ (r ≡ 1) × (now (written .exit) ≡ 0) ⌝ }
+{
+    *written = 0;
+    1
+}
+
 // Begins a run with a number and a bit, and writes the init frame. Refusals 1, 9, 3. The image is not read.
 #[no_mangle]
 pub extern "C" fn controller_start(number: u32, bit: u8, image: &mut [u8], out: &mut [u8], written: &mut usize) -> u8
@@ -47,8 +55,7 @@ pub extern "C" fn controller_start(number: u32, bit: u8, image: &mut [u8], out: 
     if image.len() == IMAGE_BYTES {
         hand_over(start(number, bit, out), image, written)
     } else {
-        *written = 0;
-        1
+        no_image(written)
     }
 }
 
@@ -60,8 +67,7 @@ pub extern "C" fn controller_tray(image: &mut [u8], tray: &[u8], out: &mut [u8],
     if is_shaped(image) {
         hand_over(controller::calls::tray(take_apart(image), tray, out), image, written)
     } else {
-        *written = 0;
-        1
+        no_image(written)
     }
 }
 

@@ -17,6 +17,9 @@ hand-over-requires c κs =
       made = made-sound _ _ _ _ _ _ (c .before .before .before .before .start .ensures) (start-makes _ _ _);
     }
 
+no-image-requires : tie.Need-no-image-requires
+no-image-requires c κs = search needs
+
 same-length : tie.Need-same-length
 same-length c = search needs
 
@@ -30,9 +33,16 @@ returns c =
     (c .before .before .hand-over .ensures)
 
 returns-2 : tie.Need-returns-2
-returns-2 c = promise-refused _ _ _ _ (rw (ne-eqb _ imageBytes (c .if1 .left)))
+returns-2 c = promise-refused _ _ _ _ _ _ (rw (ne-eqb _ imageBytes (c .before .before .if1 .left))) (c .no-image .ensures)
 
 pub controller-start-spec : {M : Type 1} → statement M
 controller-start-spec =
     tie.close
-    (tie.spec start-requires hand-over-requires same-length same-length-2 returns returns-2)
+    (tie.spec
+    start-requires
+    hand-over-requires
+    no-image-requires
+    same-length
+    same-length-2
+    returns
+    returns-2)

@@ -29,6 +29,9 @@ hand-over-requires c κs =
       made = made-sound _ _ _ _ _ _ (c .before .before .before .before .tray .ensures) (tray-makes _ _ _);
     }
 
+no-image-requires : tie.Need-no-image-requires
+no-image-requires c κs = search needs
+
 same-length : tie.Need-same-length
 same-length c = search needs
 
@@ -45,7 +48,7 @@ same-length-3 : tie.Need-same-length-3
 same-length-3 c = search needs
 
 returns-2 : tie.Need-returns-2
-returns-2 c = promise-refused _ _ _ _ (unshaped-refusal _ _ _ (sym (c .before .is-shaped .ensures) ∙ c .if1 .left))
+returns-2 c = promise-refused _ _ _ _ _ _ (unshaped-refusal _ _ _ (sym (c .before .before .before .is-shaped .ensures) ∙ c .before .before .if1 .left)) (c .no-image .ensures)
 
 pub controller-tray-spec : {M : Type 1} → statement M
 controller-tray-spec =
@@ -55,6 +58,7 @@ controller-tray-spec =
     take-apart-requires
     tray-requires
     hand-over-requires
+    no-image-requires
     same-length
     same-length-2
     returns
