@@ -6,8 +6,6 @@ ghost use lib.ListN.{length};
 ghost use Rattle.wire.specs.Words.{wordAt};
 ghost use Rattle.controller_c.specs.Calls.{StartImagePromise, TrayImagePromise, fieldOf, HandsOver, HandedOver};
 ghost use Rattle.controller_c.specs.Image.{echoesAt, soundImage, takenApart};
-use controller::calls::start;
-use controller::state::Answer;
 use crate::image::is_shaped;
 use crate::image::is_sound_image;
 use crate::image::lay_out;
@@ -20,6 +18,8 @@ use crate::layout::IMAGE_BYTES;
 use crate::layout::KING_AT;
 use crate::layout::ROUND_AT;
 use crate::word::word;
+use controller::calls::start;
+use controller::state::Answer;
 
 mod image;
 mod layout;
@@ -49,7 +49,13 @@ fn no_image(written: &mut usize) -> u8
 
 // Begins a run with a number and a bit, and writes the init frame. Refusals 1, 9, 3. The image is not read.
 #[no_mangle]
-pub extern "C" fn controller_start(number: u32, bit: u8, image: &mut [u8], out: &mut [u8], written: &mut usize) -> u8
+pub extern "C" fn controller_start(
+    number: u32,
+    bit: u8,
+    image: &mut [u8],
+    out: &mut [u8],
+    written: &mut usize,
+) -> u8
     ensures { λ r. ⌜ StartImagePromise number bit (now (image .entry)) (now (out .entry)) r (now (image .exit)) (now (out .exit)) (now (written .exit)) ⌝ }
 {
     if image.len() == IMAGE_BYTES {
@@ -61,11 +67,20 @@ pub extern "C" fn controller_start(number: u32, bit: u8, image: &mut [u8], out: 
 
 // Works a tray of the round of the image's state and writes the next frame. Refusals 1 to 8.
 #[no_mangle]
-pub extern "C" fn controller_tray(image: &mut [u8], tray: &[u8], out: &mut [u8], written: &mut usize) -> u8
+pub extern "C" fn controller_tray(
+    image: &mut [u8],
+    tray: &[u8],
+    out: &mut [u8],
+    written: &mut usize,
+) -> u8
     ensures { λ r. ⌜ TrayImagePromise (now (image .entry)) (now (tray .entry)) (now (out .entry)) r (now (image .exit)) (now (out .exit)) (now (written .exit)) ⌝ }
 {
     if is_shaped(image) {
-        hand_over(controller::calls::tray(take_apart(image), tray, out), image, written)
+        hand_over(
+            controller::calls::tray(take_apart(image), tray, out),
+            image,
+            written,
+        )
     } else {
         no_image(written)
     }

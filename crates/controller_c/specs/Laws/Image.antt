@@ -115,7 +115,7 @@ unfolding placesAt
 list-back p n r k e z =
     let b = p ++ (listBytes n ++ r) in
     let whole : wordsAt b k (suc (length (n .at))) ≡ n .len ∷ n .at =
-        rw (← e, ← add-zero (length p)) (words-behind p (listBytes n ++ r) 0 (suc (length (n .at))) ∙ words-front (n .len ∷ n .at) r) in
+    rw (← e, ← add-zero (length p)) (words-behind p (listBytes n ++ r) 0 (suc (length (n .at))) ∙ words-front (n .len ∷ n .at) r) in
     let len : wordAt b k ≡ n .len = cc in
     let at : wordsAt b (k + countBytes) (length (n .at)) ≡ n .at = cc in
     let places : placesAt b (k + countBytes) ≡ n .at = ap (wordsAt b (k + countBytes)) (sym (z .places)) ∙ at in
@@ -140,7 +140,7 @@ module _ (s : State) (z : SizedLists s) where
       let l = listBytes (s .heard) ++ listBytes (s .candidates) in
       let r = listBytes (s .echoes) ++ zerosFrom reservedAt in
       let size : length (headBytes s ++ l) ≡ echoesAt =
-          omega (arith, length-append (listBytes (s .heard)) (listBytes (s .candidates)), list-bytes-length (s .heard) (z .heard), list-bytes-length (s .candidates) (z .candidates)) in
+      omega (arith, length-append (listBytes (s .heard)) (listBytes (s .candidates)), list-bytes-length (s .heard) (z .heard), list-bytes-length (s .candidates) (z .candidates)) in
       ap (λ (b : List ℕ). listAt b echoesAt)
       (ap (λ (t : List ℕ). headBytes s ++ t) (sym (append-assoc (listBytes (s .heard)) (listBytes (s .candidates)) r)) ∙ sym (append-assoc (headBytes s) l r))
       ∙ list-back (headBytes s ++ l) (s .echoes) (zerosFrom reservedAt) echoesAt size (z .echoes)
@@ -233,19 +233,19 @@ unfolding laidOut
 reserved-zero s z =
     let l = listBytes (s .heard) ++ (listBytes (s .candidates) ++ listBytes (s .echoes)) in
     let size : length (headBytes s ++ l) ≡ reservedAt =
-        omega (
-          arith,
-          length-append (listBytes (s .heard)) (listBytes (s .candidates) ++ listBytes (s .echoes)),
-          length-append (listBytes (s .candidates)) (listBytes (s .echoes)),
-          list-bytes-length (s .heard) (z .heard),
-          list-bytes-length (s .candidates) (z .candidates),
-          list-bytes-length (s .echoes) (z .echoes),
-        ) in
+    omega (
+      arith,
+      length-append (listBytes (s .heard)) (listBytes (s .candidates) ++ listBytes (s .echoes)),
+      length-append (listBytes (s .candidates)) (listBytes (s .echoes)),
+      list-bytes-length (s .heard) (z .heard),
+      list-bytes-length (s .candidates) (z .candidates),
+      list-bytes-length (s .echoes) (z .echoes),
+    ) in
     let joined : (headBytes s ++ l) ++ zerosFrom reservedAt ≡ laidOut s =
-        append-assoc (headBytes s) l (zerosFrom reservedAt)
-        ∙ ap (λ (t : List ℕ). headBytes s ++ t)
-        (append-assoc (listBytes (s .heard)) (listBytes (s .candidates) ++ listBytes (s .echoes)) (zerosFrom reservedAt)
-        ∙ ap (λ (t : List ℕ). listBytes (s .heard) ++ t) (append-assoc (listBytes (s .candidates)) (listBytes (s .echoes)) (zerosFrom reservedAt))) in
+    append-assoc (headBytes s) l (zerosFrom reservedAt)
+    ∙ ap (λ (t : List ℕ). headBytes s ++ t)
+    (append-assoc (listBytes (s .heard)) (listBytes (s .candidates) ++ listBytes (s .echoes)) (zerosFrom reservedAt)
+    ∙ ap (λ (t : List ℕ). listBytes (s .heard) ++ t) (append-assoc (listBytes (s .candidates)) (listBytes (s .echoes)) (zerosFrom reservedAt))) in
     ap (drop reservedAt) (sym joined) ∙ drop-at (headBytes s ++ l) (zerosFrom reservedAt) reservedAt size
 
 zeros-from : (at : ℕ) → zeros (zerosFrom at) ≡ true

@@ -1,7 +1,7 @@
 -- `controller_c::image::put_places` meets its contract: what is left to store, stored behind what was stored, gives the whole run of stores.
 use Prim.Native.Nat.{ℕ, _+_, _*_, _-_, _≤_, _<_}
 use mathlib.Core.List.{List, [], _∷_}
-use mathlib.Core.Path.{_≡_, refl, sym, _∙_}
+use mathlib.Core.Path.{_≡_, refl, _∙_}
 use native.Mathlib.Nat.{add-zero}
 use native.Mathlib.Numerals.{add-one}
 use native.Mathlib.Omega.{arith}
@@ -24,7 +24,7 @@ turn l out last b i h e =
     rw (next, e, split) (sets-join out at (wordBytes (getD l i 0)) (wordsBytes (drop (i + 1) l)))
 
 abbrev Inv-loop : tie.InvT-loop
-Inv-loop image₀ from list i₀ image i = 
+Inv-loop image₀ from list i₀ image i =
     (i ≤ maxNumbers)
     × (length image ≡ length image₀)
     × (sets image (from + numberWidth * i) (wordsBytes (drop i (list .at))) ≡ sets image₀ from (wordsBytes (list .at)))

@@ -1,7 +1,7 @@
 -- `controller_c::image::put_zeros` meets its contract: the zeros that are left to store, behind those stored, give the whole run of stores.
 use Prim.Native.Nat.{ℕ, suc, _+_, _-_, _≤_, _<_}
 use mathlib.Core.List.{List, []}
-use mathlib.Core.Path.{_≡_, refl, sym, _∙_}
+use mathlib.Core.Path.{_≡_, refl, _∙_}
 use native.Mathlib.Numerals.{add-one}
 use native.Mathlib.Omega.{arith}
 use borrow.Author.Needs.{needs}
@@ -20,7 +20,7 @@ unfolding zerosFrom
 done i h = let e : imageBytes - i ≡ 0 = omega arith in rw e
 
 abbrev Inv-loop : tie.InvT-loop
-Inv-loop image₀ i₀ image i = 
+Inv-loop image₀ i₀ image i =
     (reservedAt ≤ i)
     × (i ≤ imageBytes)
     × (length image ≡ length image₀)

@@ -1,11 +1,10 @@
 -- `controller_c::image::reserved_zero` meets its contract: the bytes that are left are 0, and those passed were, exactly if all are.
-use Prim.Native.Nat.{ℕ, suc, _+_, _-_, _≤_, _<_}
+use Prim.Native.Nat.{ℕ, _+_, _-_, _≤_, _<_}
 use mathlib.Core.Bool.{Bool, true, false, _&&_}
-use mathlib.Core.List.{List, []}
+use mathlib.Core.List.{List}
 use mathlib.Core.Logic.{⊎-elim}
 use mathlib.Core.Path.{_≡_, refl, sym, _∙_}
 use native.Mathlib.Numerals.{add-one}
-use native.Mathlib.Omega.{arith}
 use borrow.Author.Needs.{needs}
 use borrow.Author.Tests.{eq-eqb, ne-eqb}
 use lib.ListN.{length, getD, drop, drop-of-length-le}
@@ -58,10 +57,10 @@ loop-again c =
     let s = now (c .before .before .before .before .args .image) in
     let h : v .i < length s = search needs in
     let next : (c .if1 .zero && zeros (drop (v .i + 1) s)) ≡ (v .zero && zeros (drop (v .i) s)) =
-        ⊎-elim
-        (λ w. rw (w .1) (other s (v .i) (v .zero) h (w .0 .taken)))
-        (λ w. rw (w .1) (same s (v .i) (v .zero) h (w .0 .left)))
-        (c .if1 .came) in
+    ⊎-elim
+    (λ w. rw (w .1) (other s (v .i) (v .zero) h (w .0 .taken)))
+    (λ w. rw (w .1) (same s (v .i) (v .zero) h (w .0 .left)))
+    (c .if1 .came) in
     (search needs, search needs, next ∙ v .inv .2)
 
 returns : tie.Need-returns Inv-loop μ-loop
