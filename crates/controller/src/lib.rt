@@ -4,7 +4,7 @@ pub mod calls;
 mod lists;
 mod received;
 mod rotation;
-mod sound;
+pub mod sound;
 pub mod state;
 mod step;
 mod tally;

@@ -148,7 +148,7 @@ fn rest_sound(state: State) -> bool
     }
 }
 
-pub(crate) fn is_sound(state: State) -> bool
+pub fn is_sound(state: State) -> bool
     ensures { λ r. ⌜ r ≡ sound state ⌝ }
 {
     let heard = state.heard;

@@ -1,0 +1,41 @@
+-- How a host's call meets its promise.
+--     made-sound         the state of an answer that is not refused is the one promised, so it is sound where that is
+--     promise-handed     an answer that meets the controller's promise, handed over, meets the host's
+--     promise-refused    a refusal under 1 stores nothing
+use Prim.Native.Nat.{ℕ}
+use mathlib.Core.Bool.{Bool, true, false, cond}
+use mathlib.Core.List.{List}
+use mathlib.Core.Path.{_≡_, refl, sym, ap, _∙_}
+use lib.Dec.{eqb}
+use Rattle.controller.specs.Calls.{Promise}
+use Rattle.controller.specs.State.{View, image, sound}
+use Rattle.controller.specs.declared.state.Answer.{Answer}
+use Rattle.controller.specs.declared.state.State.{State}
+use Rattle.controller_c.specs.Calls.{ImagePromise, HandedOver}
+use Rattle.controller_c.specs.Image.{laidOut}
+
+module _ (k : ℕ) (v : View) (s : State) (before : List ℕ) (a : Answer) (after : List ℕ) (p : Promise k v s before a after) where
+  pub made-sound : (k ≡ 0 → sound (image v) ≡ true) → a .refusal ≡ 0 → sound (a .state) ≡ true
+  made-sound f h =
+      let e : k ≡ 0 = sym (p .number) ∙ h in
+      ap sound (p .state ∙ rw e) ∙ f e
+
+  -- only a state that was made is laid out
+  laid-out : (b : List ℕ) → cond (eqb (a .refusal) 0) (laidOut (a .state)) b ≡ cond (eqb k 0) (laidOut (image v)) b
+  laid-out b = rw (p .number) (pick (eqb k 0) (p .state))
+    where
+      pick : (t : Bool) → a .state ≡ cond t (image v) s → cond t (laidOut (a .state)) b ≡ cond t (laidOut (image v)) b
+      pick true e = ap laidOut e
+      pick false e = refl
+
+  pub promise-handed : (n : ℕ) (b : List ℕ) (r : ℕ) (c : List ℕ) (l : ℕ) → n ≡ k → HandedOver a b r c l → ImagePromise n v b before r c after l
+  promise-handed n b r c l e h =
+      record {
+        number = h .number ∙ p .number ∙ sym e;
+        image = rw e (h .image ∙ laid-out b);
+        output = rw e (p .output);
+        length = rw e (h .length ∙ p .written);
+      }
+
+pub promise-refused : (n : ℕ) (v : View) (b before : List ℕ) (r l : ℕ) → n ≡ 1 → (r ≡ 1) × (l ≡ 0) → ImagePromise n v b before r b before l
+promise-refused n v b before r l e h = record { number = h .0 ∙ sym e; image = rw e; output = rw e; length = rw e (h .1) }

@@ -1,0 +1,48 @@
+-- `controller_c::controller_start` meets its contract: an image of the right length leaves the refusal to the controller's start, whose answer is handed over.
+use borrow.Author.Needs.{needs}
+use borrow.Author.Tests.{eq-eqb, ne-eqb}
+use Rattle.controller_c.specs.Image.{imageBytes}
+use Rattle.controller_c.specs.Laws.Calls.{start-makes}
+use Rattle.controller_c.proofs.Promises.{made-sound, promise-handed, promise-refused}
+use Rattle.controller_c.proofs.controller_start.Statement.{statement}
+use Rattle.controller_c.proofs.controller_start.Tie as tie
+
+start-requires : tie.Need-start-requires
+start-requires c κs = search needs
+
+hand-over-requires : tie.Need-hand-over-requires
+hand-over-requires c κs =
+    record {
+      whole = search needs;
+      made = made-sound _ _ _ _ _ _ (c .before .before .before .before .start .ensures) (start-makes _ _ _);
+    }
+
+no-image-requires : tie.Need-no-image-requires
+no-image-requires c κs = search needs
+
+same-length : tie.Need-same-length
+same-length c = search needs
+
+same-length-2 : tie.Need-same-length-2
+same-length-2 c = search needs
+
+returns : tie.Need-returns
+returns c =
+    promise-handed _ _ _ _ _ _ (c .before .before .before .before .before .before .before .start .ensures) _ _ _ _ _
+    (rw (eq-eqb _ imageBytes (c .before .before .before .before .before .before .before .before .before .if1 .taken)))
+    (c .before .before .hand-over .ensures)
+
+returns-2 : tie.Need-returns-2
+returns-2 c = promise-refused _ _ _ _ _ _ (rw (ne-eqb _ imageBytes (c .before .before .if1 .left))) (c .no-image .ensures)
+
+pub controller-start-spec : {M : Type 1} → statement M
+controller-start-spec =
+    tie.close
+    (tie.spec
+    start-requires
+    hand-over-requires
+    no-image-requires
+    same-length
+    same-length-2
+    returns
+    returns-2)

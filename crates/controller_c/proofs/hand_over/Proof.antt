@@ -1,0 +1,22 @@
+-- `controller_c::hand_over` meets its contract: the state is laid out exactly if the answer's refusal is 0.
+use borrow.Author.Needs.{needs}
+use borrow.Author.Tests.{eq-eqb, ne-eqb}
+use Rattle.controller_c.proofs.hand_over.Statement.{statement}
+use Rattle.controller_c.proofs.hand_over.Tie as tie
+
+lay-out-requires : tie.Need-lay-out-requires
+lay-out-requires c κs = (c .before .before .before .before .pre .made (c .before .before .if1 .taken), c .before .before .before .before .pre .whole)
+
+same-length : tie.Need-same-length
+same-length c = search needs
+
+returns : tie.Need-returns
+returns c =
+    let t = c .before .before .before .before .before .if1 .taken in
+    record { number = search needs; image = rw (eq-eqb _ _ t) (c .before .before .lay-out .ensures); length = search needs }
+
+returns-2 : tie.Need-returns-2
+returns-2 c = record { number = search needs; image = rw (ne-eqb _ _ (c .if1 .left)); length = search needs }
+
+pub hand-over-spec : {M : Type 1} → statement M
+hand-over-spec = tie.close (tie.spec lay-out-requires same-length returns returns-2)

@@ -1,0 +1,29 @@
+-- `controller_c::image::is_sound_image` meets its contract: the two tests are those of `soundImage`, in its order.
+use borrow.Author.Needs.{needs}
+use mathlib.Core.Path.{sym, ap, _∙_}
+use Rattle.controller.specs.State.{sound}
+use Rattle.controller_c.specs.Image.{soundImage}
+use Rattle.controller_c.specs.Laws.Image.{shaped-length}
+use Rattle.controller_c.proofs.image.is_sound_image.Statement.{statement}
+use Rattle.controller_c.proofs.image.is_sound_image.Tie as tie
+
+is-shaped-requires : tie.Need-is-shaped-requires
+is-shaped-requires c κs = search needs
+
+take-apart-requires : tie.Need-take-apart-requires
+take-apart-requires c κs = shaped-length _ (sym (c .before .is-shaped .ensures) ∙ c .if1 .taken)
+
+is-sound-requires : tie.Need-is-sound-requires
+is-sound-requires c κs = search needs
+
+returns : tie.Need-returns
+unfolding soundImage
+returns c = rw (sym (c .before .before .before .is-shaped .ensures) ∙ c .before .before .if1 .taken) (c .is-sound .ensures ∙ ap sound (c .before .take-apart .ensures))
+
+returns-2 : tie.Need-returns-2
+unfolding soundImage
+returns-2 c = rw (sym (c .before .is-shaped .ensures) ∙ c .if1 .left)
+
+pub is-sound-image-spec : {M : Type 1} → statement M
+is-sound-image-spec =
+    tie.close (tie.spec is-shaped-requires take-apart-requires is-sound-requires returns returns-2)

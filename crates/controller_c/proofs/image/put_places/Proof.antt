@@ -1,0 +1,93 @@
+-- `controller_c::image::put_places` meets its contract: what is left to store, stored behind what was stored, gives the whole run of stores.
+use Prim.Native.Nat.{ℕ, _+_, _*_, _-_, _≤_, _<_}
+use mathlib.Core.List.{List, [], _∷_}
+use mathlib.Core.Path.{_≡_, refl, _∙_}
+use native.Mathlib.Nat.{add-zero}
+use native.Mathlib.Numerals.{add-one}
+use native.Mathlib.Omega.{arith}
+use borrow.Author.Needs.{needs}
+use lib.ListN.{length, drop, getD, drop-of-length-le}
+use lib.Seq.{sets, drop-cons}
+use Rattle.wire.specs.Limits.{maxNumbers, numberWidth}
+use Rattle.wire.specs.Words.{wordBytes, wordsBytes}
+use Rattle.controller_c.proofs.Stores.{sets-join}
+use Rattle.controller_c.proofs.image.put_places.Statement.{statement}
+use Rattle.controller_c.proofs.image.put_places.Tie as tie
+
+-- one turn stores one number and leaves the rest
+turn : (l out last : List ℕ) (b i : ℕ) → i < length l → last ≡ sets out (b + numberWidth * i) (wordBytes (getD l i 0))
+    → sets last (b + numberWidth * (i + 1)) (wordsBytes (drop (i + 1) l)) ≡ sets out (b + numberWidth * i) (wordsBytes (drop i l))
+turn l out last b i h e =
+    let at = b + numberWidth * i in
+    let next : b + numberWidth * (i + 1) ≡ at + length (wordBytes (getD l i 0)) = omega arith in
+    let split : drop i l ≡ getD l i 0 ∷ drop (i + 1) l = rw add-one (drop-cons l i 0 h) in
+    rw (next, e, split) (sets-join out at (wordBytes (getD l i 0)) (wordsBytes (drop (i + 1) l)))
+
+abbrev Inv-loop : tie.InvT-loop
+Inv-loop image₀ from list i₀ image i =
+    (i ≤ maxNumbers)
+    × (length image ≡ length image₀)
+    × (sets image (from + numberWidth * i) (wordsBytes (drop i (list .at))) ≡ sets image₀ from (wordsBytes (list .at)))
+
+abbrev μ-loop : tie.MeasureT-loop
+μ-loop image₀ from list i₀ image i = maxNumbers - i
+
+loop-holds : tie.Need-loop-holds Inv-loop μ-loop
+loop-holds c = (search needs, refl, rw add-zero)
+
+mul-put-word : tie.Need-mul-put-word Inv-loop μ-loop
+mul-put-word c = search needs
+
+add-put-word : tie.Need-add-put-word Inv-loop μ-loop
+add-put-word c = search needs
+
+mul-put-word-2 : tie.Need-mul-put-word-2 Inv-loop μ-loop
+mul-put-word-2 c = search needs
+
+element-copy-out-put-word : tie.Need-element-copy-out-put-word Inv-loop μ-loop
+element-copy-out-put-word c = search needs
+
+put-word-requires : tie.Need-put-word-requires Inv-loop μ-loop
+put-word-requires c κs = search needs
+
+add-i : tie.Need-add-i Inv-loop μ-loop
+add-i c = search needs
+
+loop-less : tie.Need-loop-less Inv-loop μ-loop
+loop-less c = search needs
+
+loop-again : tie.Need-loop-again Inv-loop μ-loop
+loop-again c =
+    let v = c .before .before .before .before .before .before .loop in
+    let l = c .before .before .before .before .before .before .before .before .args .t3 .at in
+    let n : length l ≡ maxNumbers = search needs in
+    (search needs, search needs, turn l (v .image) (c .before .before .put-word .last .0) _ (v .i) (search needs) (c .before .before .put-word .ensures) ∙ v .inv .2)
+
+same-length : tie.Need-same-length Inv-loop μ-loop
+same-length c = search needs
+
+returns : tie.Need-returns Inv-loop μ-loop
+returns c =
+    let v = c .before .loop in
+    let l = c .before .before .before .args .t3 .at in
+    let n : length l ≡ maxNumbers = search needs in
+    let e : drop (v .i) l ≡ [] = drop-of-length-le l {i = v .i} (search needs) in
+    rw e at (v .inv .2)
+
+pub put-places-spec : {M : Type 1} → statement M
+put-places-spec =
+    tie.close
+    (tie.spec
+    Inv-loop
+    μ-loop
+    loop-holds
+    mul-put-word
+    add-put-word
+    mul-put-word-2
+    element-copy-out-put-word
+    put-word-requires
+    add-i
+    loop-less
+    loop-again
+    same-length
+    returns)

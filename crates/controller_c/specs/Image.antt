@@ -1,0 +1,122 @@
+-- The image of a state, 1,024 bytes that a host keeps: the page docs/IMAGE.md, and document 01, "A controller's state".
+--     imageBytes, ownAt, ..     the image's length and the offsets of its fields
+--     listBytes n               a list's 260 bytes: its count, then its 64 places
+--     laidOut s                 the bytes of the state s
+--     listAt b at               the list that stands in b from at on
+--     takenApart b              the state in the bytes b
+--     zeros l                   each number of l is 0
+--     shaped b                  the bytes are as many as an image has, and the reserved ones are 0
+--     soundImage b              so they are, and the state in them is sound
+use Prim.Native.Nat.{ℕ, _+_, _-_}
+use mathlib.Core.Bool.{Bool, true, _&&_}
+use mathlib.Core.List.{List, [], _∷_, _++_}
+use lib.Dec.{eqb}
+use lib.ListN.{length, getD, drop, replicate}
+use Rattle.wire.specs.Limits.{maxNumbers}
+use Rattle.wire.specs.Words.{wordAt, wordBytes, wordsAt, wordsBytes}
+use Rattle.wire.specs.declared.frame.Numbers.{Numbers}
+use Rattle.controller.specs.State.{sound}
+use Rattle.controller.specs.declared.state.State.{State}
+
+-- ---- the table. The code names the same numbers in src/layout.rt
+
+abbrev pub imageBytes : ℕ
+imageBytes = 1024
+
+abbrev pub ownAt : ℕ
+ownAt = 0
+
+abbrev pub roundAt : ℕ
+roundAt = 4
+
+abbrev pub bitAt : ℕ
+bitAt = 8
+
+abbrev pub saidAt : ℕ
+saidAt = 9
+
+abbrev pub strongAt : ℕ
+strongAt = 10
+
+abbrev pub kingAt : ℕ
+kingAt = 11
+
+abbrev pub decisionAt : ℕ
+decisionAt = 15
+
+abbrev pub heardAt : ℕ
+heardAt = 16
+
+abbrev pub candidatesAt : ℕ
+candidatesAt = 276
+
+abbrev pub echoesAt : ℕ
+echoesAt = 536
+
+-- from here to the end the bytes are 0
+abbrev pub reservedAt : ℕ
+reservedAt = 796
+
+-- a list: the width of its count, which its places follow, and of the whole
+abbrev pub countBytes : ℕ
+countBytes = 4
+
+abbrev pub listWidth : ℕ
+listWidth = 260
+
+-- ---- from a state to its image
+
+-- the fields before the lists
+abbrev pub headBytes : State → List ℕ
+headBytes s =
+    wordBytes (s .own)
+    ++ (wordBytes (s .round)
+    ++ (s .bit ∷ s .said ∷ s .strong ∷ (wordBytes (s .king)
+    ++ (s .decision ∷ []))))
+
+abbrev pub listBytes : Numbers → List ℕ
+listBytes n = wordBytes (n .len) ++ wordsBytes (n .at)
+
+-- zeros from an offset on to the image's end
+unfoldable pub zerosFrom : ℕ → List ℕ
+zerosFrom at = replicate (imageBytes - at) 0
+
+unfoldable pub laidOut : State → List ℕ
+laidOut s = headBytes s ++ (listBytes (s .heard) ++ (listBytes (s .candidates) ++ (listBytes (s .echoes) ++ zerosFrom reservedAt)))
+
+-- ---- from an image to the state in it
+
+-- the 64 places of a list
+unfoldable pub placesAt : List ℕ → ℕ → List ℕ
+placesAt b at = wordsAt b at maxNumbers
+
+abbrev pub listAt : List ℕ → ℕ → Numbers
+listAt b at = record { len = wordAt b at; at = placesAt b (at + countBytes) }
+
+abbrev pub takenApart : List ℕ → State
+takenApart b =
+    record {
+      own = wordAt b ownAt;
+      round = wordAt b roundAt;
+      bit = getD b bitAt 0;
+      said = getD b saidAt 0;
+      strong = getD b strongAt 0;
+      king = wordAt b kingAt;
+      decision = getD b decisionAt 0;
+      heard = listAt b heardAt;
+      candidates = listAt b candidatesAt;
+      echoes = listAt b echoesAt;
+    }
+
+-- ---- soundness
+
+abbrev pub zeros : List ℕ → Bool
+zeros [] = true
+zeros (x ∷ l) = eqb x 0 && zeros l
+
+-- what is tested before the state
+unfoldable pub shaped : List ℕ → Bool
+shaped b = eqb (length b) imageBytes && zeros (drop reservedAt b)
+
+unfoldable pub soundImage : List ℕ → Bool
+soundImage b = shaped b && sound (takenApart b)

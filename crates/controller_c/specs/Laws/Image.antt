@@ -1,0 +1,344 @@
+-- Laws of images: laying out and taking apart are inverse to each other on sound states.
+--     takenApart-laidOut     a sound state is what its image is taken apart to
+--     laidOut-takenApart     a sound image is what the state in it is laid out to
+--     laidOut-sound          the image of a sound state is sound
+--     laidOut-bytes          and it is made of bytes, where the state's numbers are of 32 bits
+use Prim.Native.Nat.{ℕ, zero, suc, _+_, _*_, _-_, _/_, _%_, _≤_, _<_}
+use mathlib.Core.Bool.{Bool, true, false, cond, and-eq-true-iff}
+use mathlib.Core.List.{List, [], _∷_, _++_, append-assoc}
+use mathlib.Core.Path.{_≡_, refl, sym, ap, _∙_}
+use native.Mathlib.Nat.{add-zero}
+use native.Mathlib.Omega.{arith}
+use borrow.Author.Tests.{leb-true, eqb-true, eq-eqb}
+use lib.Dec.{leb, eqb}
+use lib.ListN.{length, drop, replicate, length-append, length-drop, length-replicate}
+use lib.Seq.{drop-at}
+use Rattle.wire.specs.Frame.{bitFits}
+use Rattle.wire.specs.Limits.{maxNumbers, numberWidth}
+use Rattle.wire.specs.Numbers.{stored, listed}
+use Rattle.wire.specs.Words.{wordAt, wordBytes, wordsAt, wordsBytes, Below}
+use Rattle.wire.specs.Laws.Words.{word-back, words-behind, byte-drop, word-drop, words-drop}
+use Rattle.wire.specs.declared.frame.Numbers.{Numbers}
+use Rattle.controller.specs.State.{sound}
+use Rattle.controller.specs.Laws.State.{sound-gives, sound-stored}
+use Rattle.controller.specs.declared.state.State.{State}
+use Rattle.controller_c.specs.Image.{imageBytes, heardAt, candidatesAt, echoesAt, reservedAt, countBytes, listWidth, headBytes, listBytes, zerosFrom, laidOut, placesAt, listAt, takenApart, zeros, shaped, soundImage}
+
+-- ---- lengths
+
+words-bytes-length : (l : List ℕ) → length (wordsBytes l) ≡ numberWidth * length l
+words-bytes-length [] = refl
+words-bytes-length (x ∷ l) = omega (arith, words-bytes-length l)
+
+-- a list of a sound state: what its count and its places are
+pub record Sized (n : Numbers) : Type 0 where
+  pub few : n .len ≤ maxNumbers
+  pub places : length (n .at) ≡ maxNumbers
+
+stored-sized : (n : Numbers) → stored (listed n) ≡ n → length (listed n) ≤ maxNumbers → Sized n
+stored-sized n e h =
+    let l = listed n in
+    let len : n .len ≡ length l = ap (λ (m : Numbers). m .len) (sym e) in
+    let at : n .at ≡ l ++ replicate (maxNumbers - length l) 0 = ap (λ (m : Numbers). m .at) (sym e) in
+    let all : length (l ++ replicate (maxNumbers - length l) 0) ≡ maxNumbers = rw (length-append, length-replicate) (omega arith) in
+    record { few = omega arith; places = ap length at ∙ all }
+
+pub record SizedLists (s : State) : Type 0 where
+  pub heard : Sized (s .heard)
+  pub candidates : Sized (s .candidates)
+  pub echoes : Sized (s .echoes)
+
+pub sound-sized : (s : State) → sound s ≡ true → SizedLists s
+sound-sized s h =
+    let g = sound-gives s h in
+    let e = sound-stored s h in
+    record {
+      heard = stored-sized (s .heard) (ap (λ (t : State). t .heard) e) (g .heard .short);
+      candidates = stored-sized (s .candidates) (ap (λ (t : State). t .candidates) e) (g .candidates .short);
+      echoes = stored-sized (s .echoes) (ap (λ (t : State). t .echoes) e) (g .echoes .short);
+    }
+
+pub list-bytes-length : (n : Numbers) → Sized n → length (listBytes n) ≡ listWidth
+list-bytes-length n z = let p = z .places in omega (arith, words-bytes-length (n .at))
+
+zeros-from-length : (at : ℕ) → length (zerosFrom at) ≡ imageBytes - at
+unfolding zerosFrom
+zeros-from-length at = length-replicate (imageBytes - at) 0
+
+module _ (s : State) where
+  pub laid-out-length : SizedLists s → length (laidOut s) ≡ imageBytes
+  unfolding laidOut
+  laid-out-length z =
+      omega (
+        arith,
+        length-append (listBytes (s .heard)) (listBytes (s .candidates) ++ (listBytes (s .echoes) ++ zerosFrom reservedAt)),
+        length-append (listBytes (s .candidates)) (listBytes (s .echoes) ++ zerosFrom reservedAt),
+        length-append (listBytes (s .echoes)) (zerosFrom reservedAt),
+        list-bytes-length (s .heard) (z .heard),
+        list-bytes-length (s .candidates) (z .candidates),
+        list-bytes-length (s .echoes) (z .echoes),
+        zeros-from-length reservedAt,
+      )
+
+-- ---- soundness
+
+shaped-gives : (b : List ℕ) → shaped b ≡ true → (length b ≡ imageBytes) × (zeros (drop reservedAt b) ≡ true)
+unfolding shaped
+shaped-gives b h =
+    let e = and-eq-true-iff (eqb (length b) imageBytes) (zeros (drop reservedAt b)) .0 h in
+    (eqb-true _ _ (e .0), e .1)
+
+pub shaped-length : (b : List ℕ) → shaped b ≡ true → length b ≡ imageBytes
+shaped-length b h = shaped-gives b h .0
+
+-- what a sound image is, test by test
+pub record SoundImage (b : List ℕ) : Type 0 where
+  pub whole : length b ≡ imageBytes
+  pub reserved : zeros (drop reservedAt b) ≡ true
+  pub state : sound (takenApart b) ≡ true
+
+pub sound-image-gives : (b : List ℕ) → soundImage b ≡ true → SoundImage b
+unfolding soundImage
+sound-image-gives b h =
+    let e = and-eq-true-iff (shaped b) (sound (takenApart b)) .0 h in
+    let t = shaped-gives b (e .0) in
+    record { whole = t .0; reserved = t .1; state = e .1 }
+
+-- ---- laid out, then taken apart
+
+-- numbers in front of other bytes
+words-front : (l r : List ℕ) → wordsAt (wordsBytes l ++ r) 0 (length l) ≡ l
+words-front [] r = refl
+words-front (x ∷ l) r = rw (word-back x, words-behind (wordBytes x) (wordsBytes l ++ r) 0 (length l), words-front l r)
+
+-- a list behind a prefix
+list-back : (p : List ℕ) (n : Numbers) (r : List ℕ) (k : ℕ) → length p ≡ k → Sized n → listAt (p ++ (listBytes n ++ r)) k ≡ n
+unfolding placesAt
+list-back p n r k e z =
+    let b = p ++ (listBytes n ++ r) in
+    let whole : wordsAt b k (suc (length (n .at))) ≡ n .len ∷ n .at =
+    rw (← e, ← add-zero (length p)) (words-behind p (listBytes n ++ r) 0 (suc (length (n .at))) ∙ words-front (n .len ∷ n .at) r) in
+    let len : wordAt b k ≡ n .len = cc in
+    let at : wordsAt b (k + countBytes) (length (n .at)) ≡ n .at = cc in
+    let places : placesAt b (k + countBytes) ≡ n .at = ap (wordsAt b (k + countBytes)) (sym (z .places)) ∙ at in
+    λ i. record { len = len i; at = places i }
+
+module _ (s : State) (z : SizedLists s) where
+  heard-back : listAt (laidOut s) heardAt ≡ s .heard
+  unfolding laidOut
+  heard-back = list-back (headBytes s) (s .heard) (listBytes (s .candidates) ++ (listBytes (s .echoes) ++ zerosFrom reservedAt)) heardAt refl (z .heard)
+
+  candidates-back : listAt (laidOut s) candidatesAt ≡ s .candidates
+  unfolding laidOut
+  candidates-back =
+      let p = headBytes s ++ listBytes (s .heard) in
+      let r = listBytes (s .echoes) ++ zerosFrom reservedAt in
+      ap (λ (b : List ℕ). listAt b candidatesAt) (sym (append-assoc (headBytes s) (listBytes (s .heard)) (listBytes (s .candidates) ++ r)))
+      ∙ list-back p (s .candidates) r candidatesAt (omega (arith, list-bytes-length (s .heard) (z .heard))) (z .candidates)
+
+  echoes-back : listAt (laidOut s) echoesAt ≡ s .echoes
+  unfolding laidOut
+  echoes-back =
+      let l = listBytes (s .heard) ++ listBytes (s .candidates) in
+      let r = listBytes (s .echoes) ++ zerosFrom reservedAt in
+      let size : length (headBytes s ++ l) ≡ echoesAt =
+      omega (arith, length-append (listBytes (s .heard)) (listBytes (s .candidates)), list-bytes-length (s .heard) (z .heard), list-bytes-length (s .candidates) (z .candidates)) in
+      ap (λ (b : List ℕ). listAt b echoesAt)
+      (ap (λ (t : List ℕ). headBytes s ++ t) (sym (append-assoc (listBytes (s .heard)) (listBytes (s .candidates)) r)) ∙ sym (append-assoc (headBytes s) l r))
+      ∙ list-back (headBytes s ++ l) (s .echoes) (zerosFrom reservedAt) echoesAt size (z .echoes)
+
+  fields-back : takenApart (laidOut s) ≡ s
+  unfolding laidOut
+  fields-back =
+      let own = word-back (s .own) in
+      let round = word-back (s .round) in
+      let king = word-back (s .king) in
+      let heard = heard-back in
+      let candidates = candidates-back in
+      let echoes = echoes-back in
+      λ i.
+      record {
+        own = own i;
+        round = round i;
+        bit = s .bit;
+        said = s .said;
+        strong = s .strong;
+        king = king i;
+        decision = s .decision;
+        heard = heard i;
+        candidates = candidates i;
+        echoes = echoes i;
+      }
+
+pub takenApart-laidOut : (s : State) → sound s ≡ true → takenApart (laidOut s) ≡ s
+takenApart-laidOut s h = fields-back s (sound-sized s h)
+
+-- ---- taken apart, then laid out
+
+zeros-are : (l : List ℕ) → zeros l ≡ true → replicate (length l) 0 ≡ l
+zeros-are [] h = refl
+zeros-are (x ∷ l) h =
+    let e = and-eq-true-iff (eqb x 0) (zeros l) .0 h in
+    let head : 0 ≡ x = sym (eqb-true x 0 (e .0)) in
+    let tail = zeros-are l (e .1) in
+    cc
+
+zeros-replicate : (n : ℕ) → zeros (replicate n 0) ≡ true
+zeros-replicate zero = refl
+zeros-replicate (suc n) = zeros-replicate n
+
+places-are : (b : List ℕ) (at n : ℕ) → n ≡ maxNumbers → placesAt b at ≡ wordsAt b at n
+unfolding placesAt
+places-are b at n e = ap (wordsAt b at) (sym e)
+
+reserved-are : (b : List ℕ) → length b ≡ imageBytes → zeros (drop reservedAt b) ≡ true → zerosFrom reservedAt ≡ drop reservedAt b
+unfolding zerosFrom
+reserved-are b e h =
+    let size : length (drop reservedAt b) ≡ imageBytes - reservedAt = omega (arith, length-drop reservedAt b) in
+    ap (λ (n : ℕ). replicate n 0) (sym size) ∙ zeros-are (drop reservedAt b) h
+
+module _ (b : List ℕ) (bytes : Below 256 b) where
+  list-drop : (at n : ℕ) → n ≡ maxNumbers → at + listWidth ≤ length b → listBytes (listAt b at) ++ drop (at + listWidth) b ≡ drop at b
+  list-drop at n e h =
+      let size : at + numberWidth * suc n ≡ at + listWidth = omega arith in
+      rw (places-are b (at + countBytes) n e, ← size) (words-drop b bytes at (suc n) (omega arith))
+
+  head-drop : heardAt ≤ length b → headBytes (takenApart b) ++ drop heardAt b ≡ b
+  head-drop h =
+      rw (
+        ← byte-drop b 15 16 refl (omega arith),
+        word-drop b bytes 11 (omega arith),
+        ← byte-drop b 10 11 refl (omega arith),
+        ← byte-drop b 9 10 refl (omega arith),
+        ← byte-drop b 8 9 refl (omega arith),
+        word-drop b bytes 4 (omega arith),
+      )
+      (word-drop b bytes 0 (omega arith))
+
+  pub laidOut-takenApart : soundImage b ≡ true → laidOut (takenApart b) ≡ b
+  unfolding laidOut
+  laidOut-takenApart h =
+      let t = sound-image-gives b h in
+      let whole = t .whole in
+      rw (
+        reserved-are b whole (t .reserved),
+        list-drop echoesAt maxNumbers refl (omega arith),
+        list-drop candidatesAt maxNumbers refl (omega arith),
+        list-drop heardAt maxNumbers refl (omega arith),
+      )
+      (head-drop (omega arith))
+
+-- ---- what is laid out is a sound image
+
+reserved-zero : (s : State) → SizedLists s → drop reservedAt (laidOut s) ≡ zerosFrom reservedAt
+unfolding laidOut
+reserved-zero s z =
+    let l = listBytes (s .heard) ++ (listBytes (s .candidates) ++ listBytes (s .echoes)) in
+    let size : length (headBytes s ++ l) ≡ reservedAt =
+    omega (
+      arith,
+      length-append (listBytes (s .heard)) (listBytes (s .candidates) ++ listBytes (s .echoes)),
+      length-append (listBytes (s .candidates)) (listBytes (s .echoes)),
+      list-bytes-length (s .heard) (z .heard),
+      list-bytes-length (s .candidates) (z .candidates),
+      list-bytes-length (s .echoes) (z .echoes),
+    ) in
+    let joined : (headBytes s ++ l) ++ zerosFrom reservedAt ≡ laidOut s =
+    append-assoc (headBytes s) l (zerosFrom reservedAt)
+    ∙ ap (λ (t : List ℕ). headBytes s ++ t)
+    (append-assoc (listBytes (s .heard)) (listBytes (s .candidates) ++ listBytes (s .echoes)) (zerosFrom reservedAt)
+    ∙ ap (λ (t : List ℕ). listBytes (s .heard) ++ t) (append-assoc (listBytes (s .candidates)) (listBytes (s .echoes)) (zerosFrom reservedAt))) in
+    ap (drop reservedAt) (sym joined) ∙ drop-at (headBytes s ++ l) (zerosFrom reservedAt) reservedAt size
+
+zeros-from : (at : ℕ) → zeros (zerosFrom at) ≡ true
+unfolding zerosFrom
+zeros-from at = zeros-replicate (imageBytes - at)
+
+pub laidOut-sound : (s : State) → sound s ≡ true → soundImage (laidOut s) ≡ true
+unfolding soundImage shaped
+laidOut-sound s h =
+    let z = sound-sized s h in
+    rw (eq-eqb (length (laidOut s)) imageBytes (laid-out-length s z), reserved-zero s z, zeros-from reservedAt, takenApart-laidOut s h) h
+
+-- ---- what is laid out is made of bytes
+
+data Bytes : List ℕ → Type 0 where
+  none : Bytes []
+  more : (x : ℕ) {l : List ℕ} → x < 256 → Bytes l → Bytes (x ∷ l)
+
+bytes-append : {l m : List ℕ} → Bytes l → Bytes m → Bytes (l ++ m)
+bytes-append none d = d
+bytes-append (more x h b) d = more x h (bytes-append b d)
+
+bytes-below : {l : List ℕ} → Bytes l → Below 256 l
+bytes-below none i = omega arith
+bytes-below (more x h b) zero = h
+bytes-below (more x h b) (suc i) = bytes-below b i
+
+zeros-bytes : (n : ℕ) → Bytes (replicate n 0)
+zeros-bytes zero = none
+zeros-bytes (suc n) = more 0 (omega arith) (zeros-bytes n)
+
+-- what a field of 32 bits holds
+abbrev pub wide : ℕ
+wide = 4294967296
+
+word-bytes : (x : ℕ) → x < wide → Bytes (wordBytes x)
+word-bytes x h =
+    more (x / 256 / 256 / 256) (omega arith)
+    (more (x / 256 / 256 % 256) (omega arith)
+    (more (x / 256 % 256) (omega arith)
+    (more (x % 256) (omega arith) none)))
+
+words-bytes : (l : List ℕ) → Below wide l → Bytes (wordsBytes l)
+words-bytes [] b = none
+words-bytes (x ∷ l) b = bytes-append (word-bytes x (b 0)) (words-bytes l (λ (i : ℕ). b (suc i)))
+
+list-bytes : (n : Numbers) → Sized n → Below wide (n .at) → Bytes (listBytes n)
+list-bytes n z b = let few = z .few in bytes-append (word-bytes (n .len) (omega arith)) (words-bytes (n .at) b)
+
+reserved-bytes : Bytes (zerosFrom reservedAt)
+unfolding zerosFrom
+reserved-bytes = zeros-bytes (imageBytes - reservedAt)
+
+bit-small : (k b : ℕ) → bitFits k b ≡ true → b ≤ 2
+unfolding bitFits
+bit-small k b = pick (leb k 2) (eqb k 3)
+  where
+    pick : (x y : Bool) → cond x (eqb b 2) (cond y (leb b 1) (leb b 2)) ≡ true → b ≤ 2
+    pick true y h = let e = eqb-true b 2 h in omega arith
+    pick false true h = let e = leb-true b 1 h in omega arith
+    pick false false h = leb-true b 2 h
+
+-- the numbers of a state that soundness leaves free are of 32 bits, as the code has them
+pub record Fits (s : State) : Type 0 where
+  pub own : s .own < wide
+  pub king : s .king < wide
+  pub heard : Below wide (s .heard .at)
+  pub candidates : Below wide (s .candidates .at)
+  pub echoes : Below wide (s .echoes .at)
+
+head-bytes : (s : State) → sound s ≡ true → Fits s → Bytes (headBytes s)
+head-bytes s h f =
+    let g = sound-gives s h in
+    let round = g .late in
+    let bit = g .bit in
+    let said = bit-small _ _ (g .said) in
+    let strong = g .strong in
+    let decision = g .decision in
+    bytes-append (word-bytes (s .own) (f .own))
+    (bytes-append (word-bytes (s .round) (omega arith))
+    (more (s .bit) (omega arith)
+    (more (s .said) (omega arith)
+    (more (s .strong) (omega arith)
+    (bytes-append (word-bytes (s .king) (f .king)) (more (s .decision) (omega arith) none))))))
+
+pub laidOut-bytes : (s : State) → sound s ≡ true → Fits s → Below 256 (laidOut s)
+unfolding laidOut
+laidOut-bytes s h f =
+    let z = sound-sized s h in
+    bytes-below
+    (bytes-append (head-bytes s h f)
+    (bytes-append (list-bytes (s .heard) (z .heard) (f .heard))
+    (bytes-append (list-bytes (s .candidates) (z .candidates) (f .candidates))
+    (bytes-append (list-bytes (s .echoes) (z .echoes) (f .echoes)) reserved-bytes))))
