@@ -168,14 +168,9 @@ fn damage_unused(random: &mut Random, image: &mut [u8]) {
     let at = some_list(random);
     let count = get(image, at) as usize;
     if count < 64 {
-        let place = random.pick(&[count, 63, random_place(count)]);
+        let place = random.pick(&[count, 63, (count + 63) / 2]);
         put(image, at + 4 + 4 * place, random.pick(&[1, u32::MAX]));
     }
-}
-
-/// A place between the first unused one and the last.
-fn random_place(count: usize) -> usize {
-    (count + 63) / 2
 }
 
 /// Makes two neighbours equal, or the other way round, or one of them 0.
