@@ -1,0 +1,80 @@
+//! Medians over batches that take turns.
+
+use std::hint::black_box;
+use std::time::{Duration, Instant};
+
+use checks::calls::{Engine, Reference};
+
+use crate::inputs::{Input, Lent};
+
+const BATCHES: usize = 41;
+const BATCH_TIME: Duration = Duration::from_millis(2);
+
+/// Nanoseconds for one call, or one pass.
+#[derive(Clone, Copy)]
+pub struct Times {
+    pub engine: f64,
+    pub reference: f64,
+    pub pass: f64,
+}
+
+pub fn measure(input: &Input) -> Times {
+    let (mut first, mut second) = (Lent::new(), Lent::new());
+    let mut engine = || u64::from(black_box(input).work::<Engine>(&mut first));
+    let mut reference = || u64::from(black_box(input).work::<Reference>(&mut second));
+    let mut pass = || black_box(input).trays.iter().map(|tray| sum(tray)).sum();
+    let calls = [
+        calls_in_a_batch(&mut engine),
+        calls_in_a_batch(&mut reference),
+        calls_in_a_batch(&mut pass),
+    ];
+    let mut times = [const { Vec::new() }; 3];
+    for _ in 0..BATCHES {
+        times[0].push(batch(&mut engine, calls[0]));
+        times[1].push(batch(&mut reference, calls[1]));
+        times[2].push(batch(&mut pass, calls[2]));
+    }
+    let [engine, reference, pass] = times.map(median);
+    Times {
+        engine,
+        reference,
+        pass,
+    }
+}
+
+/// One pass over the bytes, a word at a time.
+fn sum(bytes: &[u8]) -> u64 {
+    let mut words = bytes.chunks_exact(8);
+    let mut sum: u64 = 0;
+    for word in &mut words {
+        let word = word.try_into().expect("8 bytes");
+        sum = sum.wrapping_add(u64::from_ne_bytes(word));
+    }
+    let rest = words.remainder().iter().map(|&byte| u64::from(byte));
+    sum.wrapping_add(rest.sum())
+}
+
+/// How many calls take about as long as a batch shall; also warms up.
+fn calls_in_a_batch(call: &mut impl FnMut() -> u64) -> u32 {
+    let begin = Instant::now();
+    let mut calls = 0;
+    while begin.elapsed() < BATCH_TIME {
+        black_box(call());
+        calls += 1;
+    }
+    calls
+}
+
+/// The time per call in a batch, in nanoseconds.
+fn batch(call: &mut impl FnMut() -> u64, calls: u32) -> f64 {
+    let begin = Instant::now();
+    for _ in 0..calls {
+        black_box(call());
+    }
+    begin.elapsed().as_nanos() as f64 / f64::from(calls)
+}
+
+fn median(mut times: Vec<f64>) -> f64 {
+    times.sort_by(f64::total_cmp);
+    times[times.len() / 2]
+}
