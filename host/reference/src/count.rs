@@ -1,6 +1,6 @@
 //! The two thresholds, and the tally of received lists.
 
-use crate::frame::MAX_NUMBERS;
+use crate::frame::{write_numbers, Frame, MAX_NUMBERS};
 
 /// Whether a count reaches a third of those heard.
 pub fn reaches_third(count: usize, heard: usize) -> bool {
@@ -17,41 +17,65 @@ pub fn reaches_two_thirds(count: usize, heard: usize) -> bool {
 }
 
 /// At most 64 lists come in: the own one and one from each other one heard.
-const MAX_LISTED: usize = MAX_NUMBERS * MAX_NUMBERS;
+pub const MAX_LISTED: usize = MAX_NUMBERS * MAX_NUMBERS;
 
 /// Counts in how many lists each number stands.
 ///
-/// The numbers of all lists are put in a row and sorted; a number's count is
-/// then the length of its run. This costs the same however the lists are made,
-/// so a liar cannot make a controller slow by its choice of numbers.
-pub struct Tally {
+/// Proper ones mostly send the list that one sends oneself, so lists equal to it
+/// are only counted. The numbers of all others are put in a row and sorted; a
+/// number's count among them is then the length of its run. This costs about the
+/// same however the lists are made, so a liar cannot make a controller slow by
+/// its choice of numbers.
+pub struct Tally<'a, const ROOM: usize> {
+    own: &'a [u32],
+    own_bytes: [u8; 4 * MAX_NUMBERS],
+    /// How many lists are the own one or equal to it.
+    equal: usize,
     len: usize,
-    numbers: [u32; MAX_LISTED],
+    numbers: [u32; ROOM],
 }
 
-impl Tally {
-    pub fn empty() -> Tally {
+impl<'a, const ROOM: usize> Tally<'a, ROOM> {
+    /// A tally that has the own list in it.
+    pub fn of(own: &'a [u32]) -> Self {
+        let mut own_bytes = [0; 4 * MAX_NUMBERS];
+        write_numbers(own, &mut own_bytes);
         Tally {
+            own,
+            own_bytes,
+            equal: 1,
             len: 0,
-            numbers: [0; MAX_LISTED],
+            numbers: [0; ROOM],
         }
     }
 
-    /// Adds one list, which has each of its numbers once.
-    pub fn add(&mut self, list: impl ExactSizeIterator<Item = u32>) {
-        let end = self.len + list.len();
-        for (place, number) in self.numbers[self.len..end].iter_mut().zip(list) {
+    /// Adds the list of a frame.
+    pub fn add(&mut self, frame: &Frame) {
+        if frame.list == &self.own_bytes[..4 * self.own.len()] {
+            self.equal += 1;
+            return;
+        }
+        let numbers = frame.numbers();
+        let end = self.len + numbers.len();
+        for (place, number) in self.numbers[self.len..end].iter_mut().zip(numbers) {
             *place = number;
         }
         self.len = end;
     }
 
-    /// Every number listed with its count, in rising order.
-    pub fn counts(&mut self) -> impl Iterator<Item = (u32, usize)> + '_ {
+    /// Hands on every number listed with its count, in rising order, until one is
+    /// refused.
+    pub fn each<E>(mut self, mut f: impl FnMut(u32, usize) -> Result<(), E>) -> Result<(), E> {
         let listed = &mut self.numbers[..self.len];
         listed.sort_unstable();
-        listed
-            .chunk_by(|a, b| a == b)
-            .map(|run| (run[0], run.len()))
+        let mut own = self.own.iter().copied().peekable();
+        for run in listed.chunk_by(|a, b| a == b) {
+            while let Some(number) = own.next_if(|&number| number < run[0]) {
+                f(number, self.equal)?;
+            }
+            let in_equal = own.next_if_eq(&run[0]).map_or(0, |_| self.equal);
+            f(run[0], run.len() + in_equal)?;
+        }
+        own.try_for_each(|number| f(number, self.equal))
     }
 }

@@ -51,7 +51,7 @@ impl Kind {
 #[derive(Clone, Copy, Debug, PartialEq, Eq)]
 pub struct Frame<'a> {
     pub bit: u8,
-    list: &'a [u8],
+    pub(crate) list: &'a [u8],
 }
 
 impl<'a> Frame<'a> {
@@ -62,6 +62,7 @@ impl<'a> Frame<'a> {
 }
 
 /// Reads a frame sent in `round`; nothing if it is void for that round.
+#[inline]
 pub fn read(bytes: &[u8], round: u32) -> Option<Frame<'_>> {
     let (header, list) = bytes.split_first_chunk::<HEADER>()?;
     let [r0, r1, r2, r3, kind, bit, c0, c1] = *header;
@@ -73,7 +74,7 @@ pub fn read(bytes: &[u8], round: u32) -> Option<Frame<'_>> {
         && expected.allows_bit(bit)
         && count <= most
         && list.len() == 4 * count
-        && is_rising(numbers(list));
+        && is_rising(list);
     sound.then_some(Frame { bit, list })
 }
 
@@ -91,26 +92,24 @@ pub fn write(round: u32, bit: u8, list: &[u32], out: &mut [u8]) -> usize {
 
 /// Big-endian numbers out of bytes.
 pub(crate) fn numbers(bytes: &[u8]) -> impl ExactSizeIterator<Item = u32> + '_ {
-    bytes
-        .chunks_exact(4)
-        .map(|b| u32::from_be_bytes([b[0], b[1], b[2], b[3]]))
+    let (numbers, _) = bytes.as_chunks::<4>();
+    numbers.iter().map(|&number| u32::from_be_bytes(number))
 }
 
 /// Numbers into big-endian bytes, as many as both have.
 pub(crate) fn write_numbers(list: &[u32], bytes: &mut [u8]) {
-    for (place, number) in bytes.chunks_exact_mut(4).zip(list) {
-        place.copy_from_slice(&number.to_be_bytes());
+    let (places, _) = bytes.as_chunks_mut::<4>();
+    for (place, number) in places.iter_mut().zip(list) {
+        *place = number.to_be_bytes();
     }
 }
 
-/// Strictly rising and nonzero: each one is over the one before, the first over 0.
-/// No early way out, so that the loop runs without branches.
-pub(crate) fn is_rising(numbers: impl Iterator<Item = u32>) -> bool {
-    let mut before = 0;
-    let mut rising = true;
-    for number in numbers {
-        rising &= number > before;
-        before = number;
-    }
-    rising
+/// Strictly rising and nonzero: the first is over 0, each next over the one before.
+/// No early way out, so that the loop takes several numbers at a time.
+pub(crate) fn is_rising(list: &[u8]) -> bool {
+    let nexts = list.get(4..).unwrap_or(&[]);
+    let rises = numbers(list)
+        .zip(numbers(nexts))
+        .fold(true, |rises, (a, b)| rises & (a < b));
+    rises && numbers(list).next() != Some(0)
 }

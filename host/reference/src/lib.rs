@@ -56,32 +56,38 @@ pub fn tray(image: &mut [u8], tray: &[u8], out: &mut [u8], length: &mut usize) -
 
 /// The decision: 0, 1, or 2 for none; 255 for an image that is not sound.
 pub fn decision(image: &[u8]) -> u8 {
-    State::read(image).map_or(255, |state| state.decision)
+    sound_state(image).map_or(255, |state| state.decision)
 }
 
 /// The last round sent; 0 for an image that is not sound.
 pub fn round(image: &[u8]) -> u32 {
-    State::read(image).map_or(0, |state| state.round)
+    sound_state(image).map_or(0, |state| state.round)
 }
 
 /// The king, 0 for none; 0 for an image that is not sound.
 pub fn king(image: &[u8]) -> u32 {
-    State::read(image).map_or(0, |state| state.king)
+    sound_state(image).map_or(0, |state| state.king)
 }
 
 /// How many numbers were heard; 0 for an image that is not sound.
 pub fn heard(image: &[u8]) -> u32 {
-    State::read(image).map_or(0, |state| state.heard.len() as u32)
+    sound_state(image).map_or(0, |state| state.heard.len() as u32)
 }
 
 /// How many candidates there are; 0 for an image that is not sound.
 pub fn candidates(image: &[u8]) -> u32 {
-    State::read(image).map_or(0, |state| state.candidates.len() as u32)
+    sound_state(image).map_or(0, |state| state.candidates.len() as u32)
 }
 
 /// How many echoes there are; 0 for an image that is not sound.
 pub fn echoes(image: &[u8]) -> u32 {
-    State::read(image).map_or(0, |state| state.echoes.len() as u32)
+    sound_state(image).map_or(0, |state| state.echoes.len() as u32)
+}
+
+fn sound_state(image: &[u8]) -> Option<State> {
+    let mut state = State::blank();
+    state.load(image)?;
+    Some(state)
 }
 
 fn answer(result: Result<usize, Refusal>, length: &mut usize) -> u8 {
@@ -103,7 +109,8 @@ fn try_start(number: u32, bit: u8, image: &mut [u8], out: &mut [u8]) -> Result<u
 }
 
 fn try_tray(image: &mut [u8], tray: &[u8], out: &mut [u8]) -> Result<usize, Refusal> {
-    let mut state = State::read(image).ok_or(Refusal::StateNotSound)?;
+    let mut state = State::blank();
+    state.load(image).ok_or(Refusal::StateNotSound)?;
     if state.round == LAST_ROUND {
         return Err(Refusal::LastRound);
     }
@@ -114,11 +121,12 @@ fn try_tray(image: &mut [u8], tray: &[u8], out: &mut [u8]) -> Result<usize, Refu
     if directory.round() != state.round {
         return Err(Refusal::OtherRound);
     }
-    if directory.names(0) || directory.names(state.number) {
+    if directory.has_bad_sender(state.number) {
         return Err(Refusal::BadSender);
     }
-    let received = directory
-        .hear(&mut state.heard)
+    let mut received = tray::Received::empty();
+    directory
+        .hear(&mut state.heard, &mut received)
         .ok_or(Refusal::TooManyHeard)?;
     step::make_next_round(&mut state, &received)?;
     let image = image.try_into().map_err(|_| Refusal::StateNotSound)?;

@@ -25,17 +25,20 @@ impl List {
         list
     }
 
-    /// Reads a list out of an image; nothing if it breaks the list's rules.
-    pub fn read(bytes: &[u8]) -> Option<List> {
+    /// Reads a list out of an image into this one, which is empty; nothing if it
+    /// breaks the list's rules.
+    pub fn load(&mut self, bytes: &[u8]) -> Option<()> {
         let (count, places) = bytes.split_first_chunk::<4>()?;
-        let mut list = List::empty();
-        list.len = u32::from_be_bytes(*count) as usize;
-        for (place, number) in list.places.iter_mut().zip(numbers(places)) {
+        let count = u32::from_be_bytes(*count) as usize;
+        if count > MAX_NUMBERS {
+            return None;
+        }
+        let (used, unused) = places.split_at_checked(4 * count)?;
+        for (place, number) in self.places.iter_mut().zip(numbers(used)) {
             *place = number;
         }
-        let (used, unused) = list.places.split_at_checked(list.len)?;
-        let sound = is_rising(used.iter().copied()) && unused.iter().fold(0, |a, n| a | n) == 0;
-        sound.then_some(list)
+        self.len = count;
+        (is_rising(used) && is_zero(unused)).then_some(())
     }
 
     pub fn write(&self, bytes: &mut [u8]) {
@@ -80,4 +83,9 @@ impl List {
         }
         free
     }
+}
+
+/// Whether all bytes are 0, without an early way out.
+pub fn is_zero(bytes: &[u8]) -> bool {
+    bytes.iter().fold(0, |all, byte| all | byte) == 0
 }

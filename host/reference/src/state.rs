@@ -1,7 +1,7 @@
 //! A controller's state, its image of 1,024 bytes, and when it is sound.
 
 use crate::frame::{Kind, LAST_ROUND, NONE};
-use crate::list::{List, LIST_LEN};
+use crate::list::{is_zero, List, LIST_LEN};
 
 /// The length of a state's image.
 pub const IMAGE_LEN: usize = 1024;
@@ -31,6 +31,22 @@ pub struct State {
 }
 
 impl State {
+    /// A state to load into; it is not sound itself.
+    pub fn blank() -> State {
+        State {
+            number: 0,
+            round: 0,
+            bit: 0,
+            said: 0,
+            strong: false,
+            king: 0,
+            decision: 0,
+            heard: List::empty(),
+            candidates: List::empty(),
+            echoes: List::empty(),
+        }
+    }
+
     /// The state after init was sent.
     pub fn started(number: u32, bit: u8) -> State {
         State {
@@ -38,12 +54,9 @@ impl State {
             round: 1,
             bit,
             said: NONE,
-            strong: false,
-            king: 0,
             decision: NONE,
             heard: List::of_one(number),
-            candidates: List::empty(),
-            echoes: List::empty(),
+            ..State::blank()
         }
     }
 
@@ -60,25 +73,24 @@ impl State {
         }
     }
 
-    /// Reads an image; nothing if it is not sound.
-    pub fn read(image: &[u8]) -> Option<State> {
+    /// Reads an image into this blank state; nothing if it is not sound. The lists
+    /// are read where they stay, since copies of them would cost most of a call.
+    pub fn load(&mut self, image: &[u8]) -> Option<()> {
         let image: &[u8; IMAGE_LEN] = image.try_into().ok()?;
-        if image[10] > 1 || image[RESERVED..].iter().fold(0, |a, b| a | b) != 0 {
+        if image[10] > 1 || !is_zero(&image[RESERVED..]) {
             return None;
         }
-        let state = State {
-            number: number_at(image, 0),
-            round: number_at(image, 4),
-            bit: image[8],
-            said: image[9],
-            strong: image[10] == 1,
-            king: number_at(image, 11),
-            decision: image[15],
-            heard: List::read(&image[HEARD..CANDIDATES])?,
-            candidates: List::read(&image[CANDIDATES..ECHOES])?,
-            echoes: List::read(&image[ECHOES..RESERVED])?,
-        };
-        state.is_sound().then_some(state)
+        self.number = number_at(image, 0);
+        self.round = number_at(image, 4);
+        self.bit = image[8];
+        self.said = image[9];
+        self.strong = image[10] == 1;
+        self.king = number_at(image, 11);
+        self.decision = image[15];
+        self.heard.load(&image[HEARD..CANDIDATES])?;
+        self.candidates.load(&image[CANDIDATES..ECHOES])?;
+        self.echoes.load(&image[ECHOES..RESERVED])?;
+        self.is_sound().then_some(())
     }
 
     /// The rules beyond those that reading the lists has tested.

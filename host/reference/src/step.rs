@@ -1,11 +1,13 @@
 //! From one tray to the next frame.
 
-use crate::count::{reaches_third, reaches_two_thirds, Tally};
+use crate::count::{reaches_third, reaches_two_thirds, Tally, MAX_LISTED};
 use crate::frame::{Kind, NONE};
 use crate::list::List;
 use crate::state::State;
 use crate::tray::Received;
 use crate::Refusal;
+
+const FEW_LISTED: usize = 256;
 
 /// Makes the round after the state's. The tray's senders are in `heard` already.
 pub fn make_next_round(state: &mut State, received: &Received) -> Result<(), Refusal> {
@@ -38,7 +40,12 @@ fn make_value(state: &mut State, received: &Received) -> Result<(), Refusal> {
             state.bit = opinion;
         }
     }
-    count_lists(state, received)?;
+    // Lists are short in most rounds; a small tally is made far quicker.
+    if state.echoes.len() + received.most_listed() <= FEW_LISTED {
+        count_lists::<FEW_LISTED>(state, received)?;
+    } else {
+        count_lists::<MAX_LISTED>(state, received)?;
+    }
     if state.undecided() && phase >= state.candidates.len() {
         state.decision = state.bit;
     }
@@ -63,25 +70,24 @@ fn opinion_of_king(state: &State, received: &Received) -> Option<u8> {
 
 /// Echoes the numbers that a third lists, and makes candidates of those that
 /// two thirds list. Old candidates are left as they are.
-fn count_lists(state: &mut State, received: &Received) -> Result<(), Refusal> {
-    let mut tally = Tally::empty();
-    tally.add(state.echoes.as_slice().iter().copied());
+fn count_lists<const ROOM: usize>(state: &mut State, received: &Received) -> Result<(), Refusal> {
+    let mut tally = Tally::<ROOM>::of(state.echoes.as_slice());
     for (_, frame) in received.frames(state) {
-        tally.add(frame.numbers());
+        tally.add(&frame);
     }
     let heard = state.heard.len();
     let mut echoes = List::empty();
     let mut joining = List::empty();
-    for (number, count) in tally.counts() {
+    tally.each(|number, count| {
         if !reaches_third(count, heard) || state.candidates.find(number).is_ok() {
-            continue;
+            return Ok(());
         }
-        let fits =
-            echoes.push(number) && (!reaches_two_thirds(count, heard) || joining.push(number));
-        if !fits {
-            return Err(Refusal::TooManyListed);
+        let joins = reaches_two_thirds(count, heard);
+        match echoes.push(number) && (!joins || joining.push(number)) {
+            true => Ok(()),
+            false => Err(Refusal::TooManyListed),
         }
-    }
+    })?;
     state.echoes = echoes;
     state.candidates = merged(&state.candidates, &joining).ok_or(Refusal::TooManyListed)?;
     Ok(())

@@ -12,13 +12,25 @@ const MAX_TRAY: usize = 65_535;
 /// The directory of a well packed tray.
 pub struct Directory<'a> {
     tray: &'a [u8],
-    entries: &'a [u8],
+    entries: &'a [[u8; ENTRY]],
 }
 
 struct Entry {
     sender: u32,
     offset: usize,
     length: usize,
+}
+
+impl Entry {
+    #[inline]
+    fn read(bytes: &[u8; ENTRY]) -> Entry {
+        let word = u64::from_be_bytes(*bytes);
+        Entry {
+            sender: (word >> 32) as u32,
+            offset: usize::from((word >> 16) as u16),
+            length: usize::from(word as u16),
+        }
+    }
 }
 
 impl<'a> Directory<'a> {
@@ -31,7 +43,7 @@ impl<'a> Directory<'a> {
         if tray.len() > MAX_TRAY || count > MAX_ENTRIES {
             return None;
         }
-        let entries = rest.get(..ENTRY * count)?;
+        let entries = rest.as_chunks().0.get(..count)?;
         let directory = Directory { tray, entries };
         let mut end = HEADER + ENTRY * count;
         for entry in directory.entries() {
@@ -48,15 +60,15 @@ impl<'a> Directory<'a> {
         u32::from_be_bytes([self.tray[0], self.tray[1], self.tray[2], self.tray[3]])
     }
 
-    /// Whether some entry stands under this number.
-    pub fn names(&self, number: u32) -> bool {
-        self.entries().any(|entry| entry.sender == number)
+    /// Whether some entry stands under 0 or the own number.
+    pub fn has_bad_sender(&self, own: u32) -> bool {
+        self.entries()
+            .any(|entry| entry.sender == 0 || entry.sender == own)
     }
 
-    /// Makes every sender heard and finds each one's first entry; nothing if
-    /// more than 64 would be heard. No sender is the controller itself.
-    pub fn hear(&self, heard: &mut List) -> Option<Received<'a>> {
-        let mut received = Received::empty();
+    /// Makes every sender heard and adds each one's first entry to `received`;
+    /// nothing if more than 64 would be heard. No sender is the controller itself.
+    pub fn hear(&self, heard: &mut List, received: &mut Received<'a>) -> Option<()> {
         // Bit p is set if the one at place p of heard had an entry before.
         let mut seen: u64 = 0;
         let mut guess = 0;
@@ -77,15 +89,11 @@ impl<'a> Directory<'a> {
                 received.add(entry.sender, bytes);
             }
         }
-        Some(received)
+        Some(())
     }
 
     fn entries(&self) -> impl Iterator<Item = Entry> + 'a {
-        self.entries.chunks_exact(ENTRY).map(|e| Entry {
-            sender: u32::from_be_bytes([e[0], e[1], e[2], e[3]]),
-            offset: usize::from(u16::from_be_bytes([e[4], e[5]])),
-            length: usize::from(u16::from_be_bytes([e[6], e[7]])),
-        })
+        self.entries.iter().map(Entry::read)
     }
 }
 
@@ -112,7 +120,7 @@ pub struct Received<'a> {
 }
 
 impl<'a> Received<'a> {
-    fn empty() -> Received<'a> {
+    pub fn empty() -> Received<'a> {
         Received {
             len: 0,
             frames: [(0, &[]); MAX_NUMBERS],
@@ -130,6 +138,12 @@ impl<'a> Received<'a> {
         self.frames[..self.len]
             .iter()
             .filter_map(move |&(sender, bytes)| Some((sender, frame::read(bytes, round)?)))
+    }
+
+    /// A bound for how many numbers the frames list.
+    pub fn most_listed(&self) -> usize {
+        let frames = self.frames[..self.len].iter();
+        frames.map(|(_, bytes)| bytes.len() / 4).sum()
     }
 
     /// One sender's frame, if it sent one that is not void for the state's round.
