@@ -1,6 +1,7 @@
 //! One call on the engine and on the reference, and the first difference.
 
 use crate::calls::{Calls, Engine, Reference};
+use crate::edges::{self, edges};
 use crate::fields::{Fields, IMAGE_LEN};
 use crate::random::Random;
 use crate::{states, trays};
@@ -8,11 +9,13 @@ use crate::{states, trays};
 /// How many trays a case hands to one state, one after the other.
 const WALK: usize = 4;
 
-/// How often each answer was given: 0 for worked, else the refusal.
+/// How often each answer was given (0 for worked, else the refusal), and how often
+/// worked trays came to each edge of the rules.
 #[derive(Clone, Default)]
 pub struct Histogram {
     pub start: [u64; 12],
     pub tray: [u64; 12],
+    pub edges: [u64; edges::NAMES.len()],
 }
 
 impl Histogram {
@@ -21,12 +24,15 @@ impl Histogram {
     }
 
     pub fn add(&mut self, other: &Histogram) {
-        for (mine, more) in self.start.iter_mut().zip(other.start) {
-            *mine += more;
-        }
-        for (mine, more) in self.tray.iter_mut().zip(other.tray) {
-            *mine += more;
-        }
+        add_all(&mut self.start, &other.start);
+        add_all(&mut self.tray, &other.tray);
+        add_all(&mut self.edges, &other.edges);
+    }
+}
+
+fn add_all(counts: &mut [u64], more: &[u64]) {
+    for (count, more) in counts.iter_mut().zip(more) {
+        *count += more;
     }
 }
 
@@ -117,6 +123,10 @@ fn tray(
         format!("tray of {length} bytes for a state of round {round}: {difference}")
     })?;
     counts.tray[usize::from(answer)] += 1;
+    if answer == 0 {
+        let came_to = edges(&state, &Fields::of(&lent.image)).map(u64::from);
+        add_all(&mut counts.edges, &came_to);
+    }
     Ok(())
 }
 

@@ -9,12 +9,14 @@
 //! - [`fields`]: the fields of a state's image, for looking and for building;
 //! - [`states`], [`trays`], [`voids`]: generators, sound, nearly sound and not;
 //! - [`compare`]: one call on both, and the first difference;
+//! - [`edges`]: what a worked tray did;
 //! - [`line`], [`liar`]: a whole line, and what its liars send.
 
 #![forbid(unsafe_code)]
 
 pub mod calls;
 pub mod compare;
+pub mod edges;
 pub mod fields;
 pub mod liar;
 pub mod line;

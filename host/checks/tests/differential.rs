@@ -5,6 +5,8 @@
 //! With the feature `fault` the reference is faulty and a mismatch must be found.
 
 use checks::compare::{case, Histogram};
+#[cfg(not(feature = "fault"))]
+use checks::edges::NAMES;
 use std::thread;
 
 const THREADS: u64 = 2;
@@ -46,6 +48,10 @@ fn the_engine_and_the_reference_agree() {
     println!("{} calls, no mismatch", counts.calls());
     println!("answer of start, count: {:?}", named(&counts.start));
     println!("answer of tray, count: {:?}", named(&counts.tray));
+    for (name, count) in NAMES.iter().zip(counts.edges) {
+        println!("{name}: {count}");
+        assert!(count >= 1000, "few trays: {name}");
+    }
     assert!(counts.calls() >= 1_000_000);
     for answer in [0, 1, 3, 9] {
         assert!(counts.start[answer] >= 1000, "start: few {answer}");
