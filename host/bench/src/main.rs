@@ -41,8 +41,8 @@ fn print_row(name: &str, size: usize, input: &Input, times: Times, smallest: Tim
         times.engine,
         times.reference,
         times.pass,
-        times.engine / times.reference,
-        times.engine / times.pass,
+        times.engine_to_reference,
+        times.engine_to_pass,
         times.engine / smallest.engine,
         times.reference / smallest.reference,
     );

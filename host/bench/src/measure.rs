@@ -10,12 +10,16 @@ use crate::inputs::{Input, Lent};
 const BATCHES: usize = 41;
 const BATCH_TIME: Duration = Duration::from_millis(2);
 
-/// Nanoseconds for one call, or one pass.
+/// Nanoseconds for one call or one pass, and how often the engine's time is the
+/// others'. All are medians; a ratio is taken between batches that follow one
+/// another, where the machine is most alike.
 #[derive(Clone, Copy)]
 pub struct Times {
     pub engine: f64,
     pub reference: f64,
     pub pass: f64,
+    pub engine_to_reference: f64,
+    pub engine_to_pass: f64,
 }
 
 pub fn measure(input: &Input) -> Times {
@@ -34,12 +38,18 @@ pub fn measure(input: &Input) -> Times {
         times[1].push(batch(&mut reference, calls[1]));
         times[2].push(batch(&mut pass, calls[2]));
     }
-    let [engine, reference, pass] = times.map(median);
+    let [engine, reference, pass] = times;
     Times {
-        engine,
-        reference,
-        pass,
+        engine_to_reference: median(ratios(&engine, &reference)),
+        engine_to_pass: median(ratios(&engine, &pass)),
+        engine: median(engine),
+        reference: median(reference),
+        pass: median(pass),
     }
+}
+
+fn ratios(times: &[f64], others: &[f64]) -> Vec<f64> {
+    times.iter().zip(others).map(|(a, b)| a / b).collect()
 }
 
 /// One pass over the bytes, a word at a time.

@@ -26,9 +26,9 @@ impl Cast {
     pub fn of(random: &mut Random, size: usize, faulty: usize) -> Cast {
         let pool = states::pool(random);
         let mut numbers = random.some(&pool, size);
-        match random.below(4) {
-            0 => (),
-            1 => numbers.reverse(),
+        match random.below(5) {
+            0 | 1 => (),
+            2 => numbers.reverse(),
             _ => random.shuffle(&mut numbers),
         }
         let proper = numbers.split_off(faulty);
@@ -47,13 +47,29 @@ impl Cast {
 }
 
 /// How the liars of one run go about it; chances are in percent.
+#[derive(Default)]
 struct Habits {
     silent: usize,
     void: usize,
     double: usize,
     /// How often a count is left one short.
     short: usize,
-    side: Side,
+}
+
+impl Habits {
+    /// Some or none of each; those that do none keep to their plan best.
+    fn of(random: &mut Random) -> Habits {
+        if random.percent(40) {
+            return Habits::default();
+        }
+        let mut chance = || random.pick(&[0, 0, 10, 50]);
+        Habits {
+            silent: chance(),
+            void: chance(),
+            double: chance(),
+            short: chance(),
+        }
+    }
 }
 
 /// To which bit each receiver is pushed.
@@ -69,64 +85,98 @@ enum Side {
     Divide,
 }
 
+struct Liar {
+    number: u32,
+    /// The round from which it sends at all.
+    joins: u32,
+    /// How many proper ones get its init.
+    inits: usize,
+}
+
+impl Liar {
+    /// One that sends to all from the start.
+    fn bold(number: u32, cast: &Cast) -> Liar {
+        Liar {
+            number,
+            joins: 1,
+            inits: cast.proper.len(),
+        }
+    }
+
+    /// One whose init goes to just so many that with the others' help its number
+    /// comes to a third or two thirds of the rosters, or not without it.
+    fn shy(random: &mut Random, number: u32, cast: &Cast) -> Liar {
+        let (proper, faulty) = (cast.proper.len(), cast.faulty.len());
+        let size = proper + faulty;
+        let inits = match random.below(3) {
+            0 => random.below(proper + 1),
+            1 => two_thirds(size) - random.within(1, faulty),
+            _ => third(size).saturating_sub(random.within(1, faulty)),
+        };
+        Liar {
+            inits,
+            ..Liar::bold(number, cast)
+        }
+    }
+
+    /// One that is silent at first.
+    fn late(random: &mut Random, number: u32, cast: &Cast) -> Liar {
+        Liar {
+            joins: some_round(random, cast),
+            ..Liar::bold(number, cast)
+        }
+    }
+}
+
+/// A round of a run in which trays keep the guarantee.
+fn some_round(random: &mut Random, cast: &Cast) -> u32 {
+    let size = cast.proper.len() + cast.faulty.len();
+    random.within(1, 2 + 3 * size) as u32
+}
+
 pub struct Schemers {
     random: Random,
-    faulty: Vec<u32>,
-    /// The round from which each one sends at all.
-    joins: Vec<u32>,
+    liars: Vec<Liar>,
     /// Numbers to bring into lists, each with the round from which to do so:
     /// the faulty ones, and some that nobody has.
     pushed: Vec<(u32, u32)>,
     habits: Habits,
+    side: Side,
 }
 
 impl Schemers {
     pub fn new(seed: u64, cast: &Cast) -> Schemers {
         let mut random = Random::new(seed);
-        let size = cast.proper.len() + cast.faulty.len();
-        let habits = Habits {
-            silent: random.pick(&[0, 0, 10, 50]),
-            void: random.pick(&[0, 0, 10, 50]),
-            double: random.pick(&[0, 0, 10, 50]),
-            short: random.pick(&[0, 0, 10, 50]),
-            side: random.pick(&[Side::Any, Side::Halves, Side::Divide]),
+        let manner = random.below(6);
+        let liar = |&number: &u32| match manner {
+            0 | 1 => Liar::shy(&mut random, number, cast),
+            2 => Liar::late(&mut random, number, cast),
+            _ => Liar::bold(number, cast),
         };
-        let (late, pushing) = (random.percent(50), random.percent(70));
-        let made_up = (0..3).map(|_| random.number().max(1)).collect::<Vec<_>>();
-        let from = |random: &mut Random| match late {
-            true => random.within(1, 2 + 3 * size) as u32,
-            false => 1,
-        };
-        let joins = cast.faulty.iter().map(|_| from(&mut random)).collect();
-        let numbers = cast.faulty.iter().chain(&made_up);
-        let pushed = numbers.map(|&n| (n, from(&mut random)));
-        let pushed = pushed.filter(|_| pushing).collect();
+        let liars = cast.faulty.iter().map(liar).collect();
         Schemers {
+            liars,
+            pushed: pushed(&mut random, cast),
+            habits: Habits::of(&mut random),
+            side: random.pick(&[Side::Any, Side::Halves, Side::Divide, Side::Divide]),
             random,
-            faulty: cast.faulty.clone(),
-            joins,
-            pushed,
-            habits,
         }
     }
 
     /// The faulty ones that send to a receiver in a round.
-    fn present(&mut self, round: u32) -> Vec<u32> {
-        let joined = self
-            .faulty
-            .iter()
-            .zip(&self.joins)
-            .filter(|(_, &from)| from <= round);
+    fn present(&mut self, round: u32, receiver: usize) -> Vec<u32> {
         let (random, silent) = (&mut self.random, self.habits.silent);
-        joined
-            .map(|(&n, _)| n)
-            .filter(|_| !random.percent(silent))
-            .collect()
+        let mut sends = |liar: &&Liar| {
+            let reaches = kind_of(round) != INIT || receiver < liar.inits;
+            liar.joins <= round && reaches && !random.percent(silent)
+        };
+        let present = self.liars.iter().filter(&mut sends);
+        present.map(|liar| liar.number).collect()
     }
 
     /// The bit that this receiver is to be pushed to.
     fn side(&mut self, view: &View, receiver: usize) -> u8 {
-        match self.habits.side {
+        match self.side {
             Side::Any => self.random.bit(),
             Side::Halves => (receiver % 2) as u8,
             Side::Divide => divide(view, receiver),
@@ -143,7 +193,7 @@ impl Schemers {
     /// the liars that are left say the other one or none.
     fn bits(&mut self, view: &View, receiver: usize, present: usize, heard: usize) -> Vec<u8> {
         let pushed = self.side(view, receiver);
-        if matches!(self.habits.side, Side::Divide) {
+        if matches!(self.side, Side::Divide) {
             return vec![pushed; present];
         }
         let from_proper = view.proper.iter().filter(|p| p.sent[5] == pushed).count();
@@ -163,7 +213,8 @@ impl Schemers {
         let king = view.states[receiver].king;
         let random = &mut self.random;
         let mut opinion = |&n: &u32| match n == king {
-            true => random.pick(&[side, side, side, side, side, against]),
+            true if random.percent(85) => side,
+            true => against,
             false => random.below(3) as u8,
         };
         present.iter().map(&mut opinion).collect()
@@ -200,9 +251,11 @@ impl Schemers {
     fn twist(&mut self, entry: Entry, round: u32) -> Vec<Entry> {
         let mut entries = vec![entry];
         if self.random.percent(self.habits.double) {
-            let mut second = entries[0].clone();
-            second.bytes[5] = self.random.below(3) as u8;
-            entries.push(second);
+            let bytes = frame(round, self.random.below(3) as u8, &[]);
+            entries.push(Entry {
+                bytes,
+                ..entries[0]
+            });
         }
         for entry in &mut entries {
             if self.random.percent(self.habits.void) {
@@ -211,6 +264,21 @@ impl Schemers {
         }
         entries
     }
+}
+
+/// No numbers, or the faulty ones and some that nobody has; from the start, or
+/// each from a round of its own.
+fn pushed(random: &mut Random, cast: &Cast) -> Vec<(u32, u32)> {
+    let manner = random.below(3);
+    if manner == 0 {
+        return Vec::new();
+    }
+    let made_up: Vec<u32> = (0..3).map(|_| random.number().max(1)).collect();
+    let mut from = |&number: &u32| match manner {
+        1 => (number, 1),
+        _ => (number, some_round(random, cast)),
+    };
+    cast.faulty.iter().chain(&made_up).map(&mut from).collect()
 }
 
 /// To which bit a receiver is pushed if the line is to stay divided; none where
@@ -222,17 +290,28 @@ fn divide(view: &View, receiver: usize) -> u8 {
     match view.states.iter().find(|s| s.number == state.king) {
         Some(king) if king.number == state.number => king.bit,
         Some(king) if next || kind != PROPOSE => 1 - king.bit,
-        // A king of theirs sets the next proper one against the rest.
-        None if kind == TURN => u8::from(next),
+        // A king of theirs sets the halves against each other, and the last one
+        // before a proper king sets that one against the rest.
+        None if kind == TURN && is_proper(view, after_king(state)) => u8::from(next),
+        None if kind == TURN => (receiver % 2) as u8,
         _ => NONE,
     }
+}
+
+fn is_proper(view: &View, number: Option<&u32>) -> bool {
+    view.states.iter().any(|s| Some(&s.number) == number)
+}
+
+/// The candidate that is king after the present one.
+fn after_king(state: &Fields) -> Option<&u32> {
+    state.candidates.iter().find(|&&c| c > state.king)
 }
 
 /// Whether a controller is the first proper one among its candidates after its
 /// king, by which kings go; after the last king, the first one of all.
 fn is_next_king(view: &View, state: &Fields) -> bool {
-    let is_proper = |number: &&u32| view.states.iter().any(|s| s.number == **number);
-    let proper: Vec<&u32> = state.candidates.iter().filter(is_proper).collect();
+    let candidates = state.candidates.iter();
+    let proper: Vec<&u32> = candidates.filter(|&c| is_proper(view, Some(c))).collect();
     let later = proper.iter().find(|&&&c| c > state.king);
     later.or(proper.first()) == Some(&&state.number)
 }
@@ -246,7 +325,7 @@ fn fitting(mut list: Vec<u32>) -> Vec<u32> {
 impl Liars for Schemers {
     fn entries(&mut self, view: &View, receiver: usize) -> Vec<Entry> {
         let (round, state) = (view.round, &view.states[receiver]);
-        let present = self.present(round);
+        let present = self.present(round, receiver);
         let all = [&state.heard, &present].into_iter().flatten().copied();
         let heard = all
             .chain(view.proper.iter().map(|p| p.number))

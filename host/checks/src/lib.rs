@@ -1,7 +1,8 @@
 //! What the tests of the compiled engine share.
 //!
 //! `tests/differential.rs` compares the engine with the reference call by call;
-//! `tests/lines.rs` runs whole lines of controllers with liars among them.
+//! `tests/lines.rs` runs whole lines of controllers with liars among them;
+//! `tests/example.rs` compiles and runs the C example.
 //!
 //! - [`calls`]: the calls of both, behind one trait;
 //! - [`random`]: a small random generator, so that a seed fixes a run;

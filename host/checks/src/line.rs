@@ -44,8 +44,20 @@ pub trait Liars {
     fn entries(&mut self, view: &View, receiver: usize) -> Vec<Entry>;
 }
 
+/// What liars brought about in a run.
+#[derive(Clone, Copy, Default)]
+pub struct Seen {
+    /// Whether proper ones named different kings in a round.
+    pub kings_differed: bool,
+    /// The last round whose making brought a proper one a new candidate.
+    pub last_join: u32,
+    /// The last round after which proper ones held different bits.
+    pub last_divided: u32,
+}
+
 pub struct Line<C> {
     pub proper: Vec<Proper>,
+    pub seen: Seen,
     /// How many there are, the faulty ones included.
     size: usize,
     round: u32,
@@ -72,6 +84,7 @@ impl<C: Calls> Line<C> {
         };
         Ok(Line {
             proper: proper.iter().map(started).collect::<Result<_, _>>()?,
+            seen: Seen::default(),
             size: proper.len() + faulty,
             round: 1,
             random: Random::new(seed),
@@ -109,7 +122,21 @@ impl<C: Calls> Line<C> {
             self.work(receiver, &tray)?;
         }
         self.round += 1;
+        self.look(&view.states);
         Ok(())
+    }
+
+    /// Notes what this round's step brought about.
+    fn look(&mut self, before: &[Fields]) {
+        let now: Vec<Fields> = self.proper.iter().map(Proper::fields).collect();
+        let mut steps = before.iter().zip(&now);
+        self.seen.kings_differed |= now.iter().any(|s| s.king != now[0].king);
+        if steps.any(|(b, n)| n.candidates.len() > b.candidates.len()) {
+            self.seen.last_join = self.round;
+        }
+        if now.iter().any(|s| s.bit != now[0].bit) {
+            self.seen.last_divided = self.round;
+        }
     }
 
     /// A tray that keeps the guarantee: every other proper one's frame as it was

@@ -5,9 +5,10 @@
 
 use checks::calls::{Calls, Engine};
 use checks::liar::{Cast, Schemers};
-use checks::line::{Liars, Line, View};
+use checks::line::{Liars, Line, Seen, View};
 use checks::packing::{frame, Entry, NONE};
 use checks::random::Random;
+use std::ops::RangeInclusive;
 
 fn first_seed() -> u64 {
     match std::env::var("CHECKS_SEED") {
@@ -17,25 +18,41 @@ fn first_seed() -> u64 {
 }
 
 /// One run of a line; the seed fixes who is faulty and all that happens.
-fn run<C: Calls>(size: usize, faulty: usize, seed: u64) -> Result<(), String> {
+fn run<C: Calls>(size: usize, faulty: usize, seed: u64) -> Result<Seen, String> {
     let mut random = Random::new(seed);
     let cast = Cast::of(&mut random, size, faulty);
     let mut liars = Schemers::new(random.word(), &cast);
-    Line::<C>::start(&cast.proper, cast.faulty.len(), random.word())?.run(&mut liars)
+    let mut line = Line::<C>::start(&cast.proper, cast.faulty.len(), random.word())?;
+    line.run(&mut liars)?;
+    Ok(line.seen)
 }
 
-/// Runs with the largest number of liars and with fewer, for some sizes.
-fn run_sizes(sizes: std::ops::RangeInclusive<usize>, runs: u64) {
-    let first = first_seed();
-    println!("sizes {sizes:?}, seeds {first} to {}", first + runs - 1);
-    for size in sizes {
+/// Runs with the largest number of liars and with fewer, for some sizes, each with
+/// a seed of its own. Also makes sure that the liars did bring something about.
+fn run_sizes(sizes: RangeInclusive<usize>, runs: u64) {
+    let mut all = Vec::new();
+    let mut seed = first_seed();
+    println!("sizes {sizes:?}, {runs} runs each, seeds from {seed} on");
+    for size in sizes.clone() {
         let most = (size - 1) / 3;
-        for seed in first..first + runs {
-            let faulty = if seed % 4 == 0 { most / 2 } else { most };
-            run::<Engine>(size, faulty, seed)
+        for _ in 0..runs {
+            let faulty = if seed.is_multiple_of(4) { most / 2 } else { most };
+            let seen = run::<Engine>(size, faulty, seed)
                 .unwrap_or_else(|e| panic!("{size} with {faulty} faulty, seed {seed}: {e}"));
+            all.push(seen);
+            seed += 1;
         }
     }
+    let kings = all.iter().filter(|seen| seen.kings_differed).count();
+    let late = all.iter().filter(|seen| seen.last_join > 3).count();
+    let divided = all.iter().filter(|seen| seen.last_divided >= 9).count();
+    println!(
+        "sizes {sizes:?}, {} runs, last seed {}: kings differed in {kings}, a candidate joined late in {late}, \
+         bits differed past phase 1 in {divided}",
+        all.len(),
+        seed - 1
+    );
+    assert!(kings > 0 && late > 0 && divided > 0);
 }
 
 #[test]
