@@ -7,8 +7,9 @@ use checks::calls::{Engine, Reference};
 
 use crate::inputs::{Input, Lent};
 
-const BATCHES: usize = 41;
-const BATCH_TIME: Duration = Duration::from_millis(2);
+/// Batches are many and short, so that most of them are not interrupted.
+const BATCHES: usize = 401;
+const BATCH_TIME: Duration = Duration::from_micros(200);
 
 /// Nanoseconds for one call or one pass, and how often the engine's time is the
 /// others'. All are medians; a ratio is taken between batches that follow one
