@@ -1,0 +1,183 @@
+//! What is timed: a state with a tray for it, or a whole run's trays.
+
+use checks::calls::{Calls, Engine, Reference};
+use checks::fields::{Fields, IMAGE_LEN};
+use checks::packing::{frame, pack, Entry, MAX_ENTRIES, NONE};
+
+pub const SIZES: [usize; 3] = [4, 16, 64];
+
+/// A name and how to make the input for a line of n.
+pub type Make = (&'static str, fn(usize) -> Input);
+
+pub const ALL: [Make; 5] = [
+    ("value tray", value_tray),
+    ("turn tray, equal lists", equal_lists),
+    ("turn tray, n * n different numbers", different_lists),
+    ("value tray, 256 entries", repeated_entries),
+    ("whole run to decision", whole_run),
+];
+
+pub struct Input {
+    /// The state that the first tray meets.
+    image: Vec<u8>,
+    pub trays: Vec<Vec<u8>>,
+}
+
+/// What calls write into, made once.
+pub struct Lent {
+    pub image: Vec<u8>,
+    pub out: [u8; 264],
+    pub length: usize,
+}
+
+impl Lent {
+    pub fn new() -> Lent {
+        Lent {
+            image: vec![0; IMAGE_LEN],
+            out: [0; 264],
+            length: 0,
+        }
+    }
+}
+
+impl Input {
+    /// Restores the state and works all trays; the last answer.
+    pub fn work<C: Calls>(&self, lent: &mut Lent) -> u8 {
+        lent.image.copy_from_slice(&self.image);
+        let mut answer = 0;
+        for tray in &self.trays {
+            answer = C::tray(&mut lent.image, tray, &mut lent.out, &mut lent.length);
+        }
+        answer
+    }
+
+    /// Both work the input, and come to the same.
+    pub fn check(&self) {
+        let (mut engine, mut reference) = (Lent::new(), Lent::new());
+        assert_eq!(self.work::<Engine>(&mut engine), 0);
+        assert_eq!(self.work::<Reference>(&mut reference), 0);
+        assert_eq!(engine.image, reference.image);
+        assert_eq!(engine.out, reference.out);
+        assert_eq!(engine.length, reference.length);
+    }
+
+    pub fn bytes(&self) -> usize {
+        self.trays.iter().map(Vec::len).sum()
+    }
+}
+
+/// The numbers of a line.
+fn line(size: usize) -> Vec<u32> {
+    (1..=size as u32).map(|i| 1_000_003 * i).collect()
+}
+
+/// The first one of a line, which has heard all.
+fn state(size: usize, round: u32) -> Fields {
+    let line = line(size);
+    Fields {
+        number: line[0],
+        round,
+        bit: 1,
+        said: 1,
+        strong: 0,
+        king: line[1],
+        decision: 2,
+        heard: line.clone(),
+        candidates: line,
+        echoes: Vec::new(),
+    }
+}
+
+/// A tray with a frame from each other one.
+fn from_others(round: u32, frames: impl IntoIterator<Item = (u32, Vec<u8>)>) -> Vec<u8> {
+    let entry = |(sender, bytes)| Entry { sender, bytes };
+    pack(round, &frames.into_iter().map(entry).collect::<Vec<_>>())
+}
+
+fn value_frames(size: usize) -> Vec<(u32, Vec<u8>)> {
+    let others = line(size).into_iter().skip(1).enumerate();
+    others
+        .map(|(i, n)| (n, frame(3, (i % 2) as u8, &[])))
+        .collect()
+}
+
+fn value_tray(size: usize) -> Input {
+    Input {
+        image: state(size, 3).image(),
+        trays: vec![from_others(3, value_frames(size))],
+    }
+}
+
+/// Repeats the entries of all others until there are 256.
+fn repeated_entries(size: usize) -> Input {
+    let frames = value_frames(size).into_iter().cycle().take(MAX_ENTRIES);
+    Input {
+        image: state(size, 3).image(),
+        trays: vec![from_others(3, frames)],
+    }
+}
+
+/// All list the same n numbers, none of them a candidate: all of them become so.
+fn equal_lists(size: usize) -> Input {
+    let mut state = state(size, 5);
+    state.candidates.clear();
+    state.echoes = line(size);
+    turn_tray(&state, |_| line(size))
+}
+
+/// Each lists n numbers of its own, spread over the same range, so none comes to
+/// a third and the tray is worked. The lists have 4,096 numbers for n = 64.
+fn different_lists(size: usize) -> Input {
+    let own_numbers = |place: usize| {
+        let numbers = (0..size).map(|i| 500 + 977 * (i * size + place) as u32);
+        numbers.collect::<Vec<u32>>()
+    };
+    let mut state = state(size, 5);
+    state.echoes = own_numbers(0);
+    turn_tray(&state, own_numbers)
+}
+
+/// A turn tray; the list is that of the one at a place in the line.
+fn turn_tray(state: &Fields, list: impl Fn(usize) -> Vec<u32>) -> Input {
+    let others = state.heard.iter().enumerate().skip(1);
+    let frames = others.map(|(place, &n)| (n, frame(5, NONE, &list(place))));
+    Input {
+        image: state.image(),
+        trays: vec![from_others(5, frames)],
+    }
+}
+
+/// A line of proper ones only, to the round in which all decide. The trays are
+/// those of its first one, so that the time is the engine's and not the host's.
+fn whole_run(size: usize) -> Input {
+    let line = line(size);
+    let mut running: Vec<Lent> = line.iter().map(|_| Lent::new()).collect();
+    for (i, lent) in running.iter_mut().enumerate() {
+        let bit = (i % 2) as u8;
+        Engine::start(
+            line[i],
+            bit,
+            &mut lent.image,
+            &mut lent.out,
+            &mut lent.length,
+        );
+    }
+    let image = running[0].image.clone();
+    let mut trays = Vec::new();
+    for round in 1..3 + 3 * size as u32 {
+        let sent = line.iter().zip(&running);
+        let sent: Vec<_> = sent
+            .map(|(&n, l)| (n, l.out[..l.length].to_vec()))
+            .collect();
+        for (i, lent) in running.iter_mut().enumerate() {
+            let others = sent.iter().filter(|(n, _)| *n != line[i]);
+            let tray = from_others(round, others.cloned());
+            Engine::tray(&mut lent.image, &tray, &mut lent.out, &mut lent.length);
+            if i == 0 {
+                trays.push(tray);
+            }
+        }
+    }
+    assert_ne!(Engine::answers(&running[0].image)[0], 2, "decided");
+    Input { image, trays }
+}

@@ -1,0 +1,49 @@
+//! The benchmark: `cargo run --release -p bench` prints a table in Markdown.
+//!
+//! It times the compiled engine through its C calls, the reference through the
+//! same calls on the same image bytes, and, as a floor, one pass over the tray's
+//! bytes word by word. Each timed call starts from the same image: copying it in
+//! costs both the same. Batches of the three take turns, so that a noisy machine
+//! hits all of them, and the medians are printed.
+
+#![forbid(unsafe_code)]
+
+mod inputs;
+mod measure;
+
+use inputs::{Input, SIZES};
+use measure::{measure, Times};
+
+fn main() {
+    println!("Time per call (for a whole run, per run of one controller) in ns.\n");
+    println!(
+        "| input | n | bytes | engine | reference | pass | engine / reference \
+         | engine / pass | engine, to n = {} | reference, to n = {} |",
+        SIZES[0], SIZES[0]
+    );
+    println!("|---|--:|--:|--:|--:|--:|--:|--:|--:|--:|");
+    for (name, make) in inputs::ALL {
+        let mut smallest = None;
+        for size in SIZES {
+            let input = make(size);
+            input.check();
+            let times = measure(&input);
+            let base = *smallest.get_or_insert(times);
+            print_row(name, size, &input, times, base);
+        }
+    }
+}
+
+fn print_row(name: &str, size: usize, input: &Input, times: Times, smallest: Times) {
+    println!(
+        "| {name} | {size} | {} | {:.0} | {:.0} | {:.0} | {:.2} | {:.1} | {:.1} | {:.1} |",
+        input.bytes(),
+        times.engine,
+        times.reference,
+        times.pass,
+        times.engine_to_reference,
+        times.engine_to_pass,
+        times.engine / smallest.engine,
+        times.reference / smallest.reference,
+    );
+}

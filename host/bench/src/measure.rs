@@ -1,0 +1,91 @@
+//! Medians over batches that take turns.
+
+use std::hint::black_box;
+use std::time::{Duration, Instant};
+
+use checks::calls::{Engine, Reference};
+
+use crate::inputs::{Input, Lent};
+
+/// Batches are many and short, so that most of them are not interrupted.
+const BATCHES: usize = 401;
+const BATCH_TIME: Duration = Duration::from_micros(200);
+
+/// Nanoseconds for one call or one pass, and how often the engine's time is the
+/// others'. All are medians; a ratio is taken between batches that follow one
+/// another, where the machine is most alike.
+#[derive(Clone, Copy)]
+pub struct Times {
+    pub engine: f64,
+    pub reference: f64,
+    pub pass: f64,
+    pub engine_to_reference: f64,
+    pub engine_to_pass: f64,
+}
+
+pub fn measure(input: &Input) -> Times {
+    let (mut first, mut second) = (Lent::new(), Lent::new());
+    let mut engine = || u64::from(black_box(input).work::<Engine>(&mut first));
+    let mut reference = || u64::from(black_box(input).work::<Reference>(&mut second));
+    let mut pass = || black_box(input).trays.iter().map(|tray| sum(tray)).sum();
+    let calls = [
+        calls_in_a_batch(&mut engine),
+        calls_in_a_batch(&mut reference),
+        calls_in_a_batch(&mut pass),
+    ];
+    let mut times = [const { Vec::new() }; 3];
+    for _ in 0..BATCHES {
+        times[0].push(batch(&mut engine, calls[0]));
+        times[1].push(batch(&mut reference, calls[1]));
+        times[2].push(batch(&mut pass, calls[2]));
+    }
+    let [engine, reference, pass] = times;
+    Times {
+        engine_to_reference: median(ratios(&engine, &reference)),
+        engine_to_pass: median(ratios(&engine, &pass)),
+        engine: median(engine),
+        reference: median(reference),
+        pass: median(pass),
+    }
+}
+
+fn ratios(times: &[f64], others: &[f64]) -> Vec<f64> {
+    times.iter().zip(others).map(|(a, b)| a / b).collect()
+}
+
+/// One pass over the bytes, a word at a time.
+fn sum(bytes: &[u8]) -> u64 {
+    let mut words = bytes.chunks_exact(8);
+    let mut sum: u64 = 0;
+    for word in &mut words {
+        let word = word.try_into().expect("8 bytes");
+        sum = sum.wrapping_add(u64::from_ne_bytes(word));
+    }
+    let rest = words.remainder().iter().map(|&byte| u64::from(byte));
+    sum.wrapping_add(rest.sum())
+}
+
+/// How many calls take about as long as a batch shall; also warms up.
+fn calls_in_a_batch(call: &mut impl FnMut() -> u64) -> u32 {
+    let begin = Instant::now();
+    let mut calls = 0;
+    while begin.elapsed() < BATCH_TIME {
+        black_box(call());
+        calls += 1;
+    }
+    calls
+}
+
+/// The time per call in a batch, in nanoseconds.
+fn batch(call: &mut impl FnMut() -> u64, calls: u32) -> f64 {
+    let begin = Instant::now();
+    for _ in 0..calls {
+        black_box(call());
+    }
+    begin.elapsed().as_nanos() as f64 / f64::from(calls)
+}
+
+fn median(mut times: Vec<f64>) -> f64 {
+    times.sort_by(f64::total_cmp);
+    times[times.len() / 2]
+}

@@ -1,0 +1,42 @@
+//! The calls of `include/controller.h`, for the engine and for the reference.
+
+pub trait Calls {
+    fn start(number: u32, bit: u8, image: &mut [u8], out: &mut [u8], length: &mut usize) -> u8;
+    fn tray(image: &mut [u8], tray: &[u8], out: &mut [u8], length: &mut usize) -> u8;
+    /// Decision, round, king, then the sizes of heard, candidates and echoes.
+    fn answers(image: &[u8]) -> [u32; 6];
+}
+
+/// The compiled engine, through its C calls.
+pub struct Engine;
+
+/// The reference.
+pub struct Reference;
+
+macro_rules! calls_of {
+    ($name:ty, $package:ident) => {
+        impl Calls for $name {
+            fn start(n: u32, bit: u8, image: &mut [u8], out: &mut [u8], len: &mut usize) -> u8 {
+                $package::start(n, bit, image, out, len)
+            }
+
+            fn tray(image: &mut [u8], tray: &[u8], out: &mut [u8], length: &mut usize) -> u8 {
+                $package::tray(image, tray, out, length)
+            }
+
+            fn answers(image: &[u8]) -> [u32; 6] {
+                [
+                    u32::from($package::decision(image)),
+                    $package::round(image),
+                    $package::king(image),
+                    $package::heard(image),
+                    $package::candidates(image),
+                    $package::echoes(image),
+                ]
+            }
+        }
+    };
+}
+
+calls_of!(Engine, engine);
+calls_of!(Reference, reference);

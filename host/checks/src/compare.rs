@@ -1,0 +1,185 @@
+//! One call on the engine and on the reference, and the first difference.
+
+use crate::calls::{Calls, Engine, Reference};
+use crate::edges::{self, edges};
+use crate::fields::{Fields, IMAGE_LEN};
+use crate::random::Random;
+use crate::{states, trays};
+
+/// How many trays a case hands to one state, one after the other.
+const WALK: usize = 4;
+
+/// How often each answer was given (0 for worked, else the refusal), and how often
+/// worked trays came to each edge of the rules.
+#[derive(Clone, Default)]
+pub struct Histogram {
+    pub start: [u64; 12],
+    pub tray: [u64; 12],
+    pub edges: [u64; edges::NAMES.len()],
+}
+
+impl Histogram {
+    pub fn calls(&self) -> u64 {
+        self.start.iter().chain(&self.tray).sum()
+    }
+
+    pub fn add(&mut self, other: &Histogram) {
+        add_all(&mut self.start, &other.start);
+        add_all(&mut self.tray, &other.tray);
+        add_all(&mut self.edges, &other.edges);
+    }
+}
+
+fn add_all(counts: &mut [u64], more: &[u64]) {
+    for (count, more) in counts.iter_mut().zip(more) {
+        *count += more;
+    }
+}
+
+/// What a call can change.
+#[derive(Clone)]
+struct Lent {
+    image: Vec<u8>,
+    out: Vec<u8>,
+    length: usize,
+}
+
+/// Runs the case of one seed; the error says the call and the first difference.
+pub fn case(seed: u64, counts: &mut Histogram) -> Result<(), String> {
+    let mut random = Random::new(seed);
+    let pool = states::pool(&mut random);
+    let mut lent = Lent {
+        image: states::sound(&mut random, &pool).image(),
+        out: random.bytes(300),
+        length: 0,
+    };
+    if random.percent(40) {
+        start(&mut random, &pool, &mut lent, counts)?;
+    }
+    if lent.image.len() != IMAGE_LEN {
+        return Ok(());
+    }
+    if random.percent(7) {
+        states::damage(&mut random, &mut lent.image);
+    }
+    for _ in 0..WALK {
+        tray(&mut random, &pool, &mut lent, counts)?;
+    }
+    Ok(())
+}
+
+/// A start; what it leaves in the image goes on into trays.
+fn start(
+    random: &mut Random,
+    pool: &[u32],
+    lent: &mut Lent,
+    counts: &mut Histogram,
+) -> Result<(), String> {
+    let number = if random.percent(5) {
+        0
+    } else {
+        random.pick(pool)
+    };
+    let bit = if random.percent(5) {
+        random.byte()
+    } else {
+        random.bit()
+    };
+    if random.percent(5) {
+        let length = random.pick(&[0, 1, 1023, 1025, 2000]);
+        lent.image.resize(length, 7);
+    }
+    lend(random, lent);
+    let answer = both(
+        lent,
+        |l| Engine::start(number, bit, &mut l.image, &mut l.out, &mut l.length),
+        |l| Reference::start(number, bit, &mut l.image, &mut l.out, &mut l.length),
+    )
+    .map_err(|difference| format!("start({number}, {bit}): {difference}"))?;
+    counts.start[usize::from(answer)] += 1;
+    Ok(())
+}
+
+fn tray(
+    random: &mut Random,
+    pool: &[u32],
+    lent: &mut Lent,
+    counts: &mut Histogram,
+) -> Result<(), String> {
+    let sound = Reference::answers(&lent.image)[1] != 0;
+    let state = match sound {
+        true => Fields::of(&lent.image),
+        false => states::sound(random, pool),
+    };
+    let tray = trays::tray(random, pool, &state);
+    lend(random, lent);
+    let answer = both(
+        lent,
+        |l| Engine::tray(&mut l.image, &tray, &mut l.out, &mut l.length),
+        |l| Reference::tray(&mut l.image, &tray, &mut l.out, &mut l.length),
+    )
+    .map_err(|difference| {
+        let (length, round) = (tray.len(), state.round);
+        format!("tray of {length} bytes for a state of round {round}: {difference}")
+    })?;
+    counts.tray[usize::from(answer)] += 1;
+    if answer == 0 {
+        let came_to = edges(&state, &Fields::of(&lent.image)).map(u64::from);
+        add_all(&mut counts.edges, &came_to);
+    }
+    Ok(())
+}
+
+/// A new output buffer, often at the edge of what a frame needs, and any length.
+fn lend(random: &mut Random, lent: &mut Lent) {
+    let size = match random.below(20) {
+        0 => random.within(0, 300),
+        1 => random.within(262, 265),
+        _ => random.within(264, 300),
+    };
+    lent.out.resize(size, random.byte());
+    if size > 0 {
+        lent.out[random.below(size)] = random.byte();
+    }
+    lent.length = random.below(1000);
+}
+
+/// Makes the call on both and compares the answers and every byte lent.
+fn both(
+    lent: &mut Lent,
+    engine: impl Fn(&mut Lent) -> u8,
+    reference: impl Fn(&mut Lent) -> u8,
+) -> Result<u8, String> {
+    let mut other = lent.clone();
+    let answer = engine(lent);
+    let expected = reference(&mut other);
+    differ("answer", answer, expected)?;
+    differ("length", lent.length, other.length)?;
+    differ_bytes("image", &lent.image, &other.image)?;
+    differ_bytes("output", &lent.out, &other.out)?;
+    let names = ["decision", "round", "king", "heard", "candidates", "echoes"];
+    let answers = Engine::answers(&lent.image);
+    let others = Reference::answers(&other.image);
+    for (name, (answer, expected)) in names.iter().zip(answers.into_iter().zip(others)) {
+        differ(name, answer, expected)?;
+    }
+    Ok(answer)
+}
+
+fn differ<T: PartialEq + std::fmt::Display>(
+    what: &str,
+    engine: T,
+    reference: T,
+) -> Result<(), String> {
+    match engine == reference {
+        true => Ok(()),
+        false => Err(format!("{what}: engine {engine}, reference {reference}")),
+    }
+}
+
+fn differ_bytes(what: &str, engine: &[u8], reference: &[u8]) -> Result<(), String> {
+    match engine.iter().zip(reference).position(|(e, r)| e != r) {
+        None => Ok(()),
+        Some(at) => differ(&format!("{what} byte {at}"), engine[at], reference[at]),
+    }
+}

@@ -1,0 +1,82 @@
+//! Frames and trays, packed byte by byte as document 01 lays them out.
+
+pub const INIT: u8 = 1;
+pub const ROSTER: u8 = 2;
+pub const VALUE: u8 = 3;
+pub const PROPOSE: u8 = 4;
+pub const TURN: u8 = 5;
+pub const NONE: u8 = 2;
+
+/// The most bytes and entries of a tray.
+pub const MAX_TRAY: usize = 65_535;
+pub const MAX_ENTRIES: usize = 256;
+
+#[derive(Clone)]
+pub struct Entry {
+    pub sender: u32,
+    pub bytes: Vec<u8>,
+}
+
+pub fn kind_of(round: u32) -> u8 {
+    match round {
+        1 => INIT,
+        2 => ROSTER,
+        _ => VALUE + (round % 3) as u8,
+    }
+}
+
+pub fn has_list(kind: u8) -> bool {
+    kind == ROSTER || kind == TURN
+}
+
+/// A frame of the round's kind, without any test.
+pub fn frame(round: u32, bit: u8, numbers: &[u32]) -> Vec<u8> {
+    let mut bytes = Vec::with_capacity(8 + 4 * numbers.len());
+    bytes.extend(round.to_be_bytes());
+    bytes.extend([kind_of(round), bit]);
+    bytes.extend((numbers.len() as u16).to_be_bytes());
+    bytes.extend(numbers.iter().flat_map(|n| n.to_be_bytes()));
+    bytes
+}
+
+/// The numbers in a frame that a controller wrote.
+pub fn numbers_in(frame: &[u8]) -> Vec<u32> {
+    frame[8..]
+        .chunks_exact(4)
+        .map(|b| u32::from_be_bytes([b[0], b[1], b[2], b[3]]))
+        .collect()
+}
+
+/// How many bytes the entries take in a tray.
+pub fn packed_len(entries: &[Entry]) -> usize {
+    8 + entries.iter().map(|e| 8 + e.bytes.len()).sum::<usize>()
+}
+
+/// Packs a tray. What does not fit its field is cut, which breaks a layout rule.
+pub fn pack(round: u32, entries: &[Entry]) -> Vec<u8> {
+    let mut tray = Vec::with_capacity(packed_len(entries));
+    tray.extend(round.to_be_bytes());
+    tray.extend((entries.len() as u16).to_be_bytes());
+    tray.extend([0, 0]);
+    let mut offset = 8 + 8 * entries.len();
+    for entry in entries {
+        tray.extend(entry.sender.to_be_bytes());
+        tray.extend((offset as u16).to_be_bytes());
+        tray.extend((entry.bytes.len() as u16).to_be_bytes());
+        offset += entry.bytes.len();
+    }
+    for entry in entries {
+        tray.extend(&entry.bytes);
+    }
+    tray
+}
+
+/// The fewest that reach a third of `heard`.
+pub fn third(heard: usize) -> usize {
+    heard.div_ceil(3)
+}
+
+/// The fewest that reach two thirds of `heard`.
+pub fn two_thirds(heard: usize) -> usize {
+    (2 * heard).div_ceil(3)
+}

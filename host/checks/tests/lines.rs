@@ -1,0 +1,149 @@
+//! Whole lines of controllers on the compiled engine, with liars that adapt.
+//!
+//! `cargo test --release -p checks --test lines -- --nocapture` prints the seeds.
+//! CHECKS_SEED moves the first one.
+
+use checks::calls::{Calls, Engine};
+use checks::liar::{Cast, Schemers};
+use checks::line::{Liars, Line, Seen, View};
+use checks::packing::{frame, Entry, NONE};
+use checks::random::Random;
+use std::ops::RangeInclusive;
+
+fn first_seed() -> u64 {
+    match std::env::var("CHECKS_SEED") {
+        Ok(seed) => seed.parse().expect("CHECKS_SEED is a number"),
+        Err(_) => 1,
+    }
+}
+
+/// One run of a line; the seed fixes who is faulty and all that happens.
+fn run<C: Calls>(size: usize, faulty: usize, seed: u64) -> Result<Seen, String> {
+    let mut random = Random::new(seed);
+    let cast = Cast::of(&mut random, size, faulty);
+    let mut liars = Schemers::new(random.word(), &cast);
+    let mut line = Line::<C>::start(&cast.proper, cast.faulty.len(), random.word())?;
+    line.run(&mut liars)?;
+    Ok(line.seen)
+}
+
+/// Runs with the largest number of liars and with fewer, for some sizes, each with
+/// a seed of its own. Also makes sure that the liars did bring something about.
+fn run_sizes(sizes: RangeInclusive<usize>, runs: u64) {
+    let mut all = Vec::new();
+    let mut seed = first_seed();
+    println!("sizes {sizes:?}, {runs} runs each, seeds from {seed} on");
+    for size in sizes.clone() {
+        let most = (size - 1) / 3;
+        for _ in 0..runs {
+            let faulty = if seed.is_multiple_of(4) {
+                most / 2
+            } else {
+                most
+            };
+            let seen = run::<Engine>(size, faulty, seed)
+                .unwrap_or_else(|e| panic!("{size} with {faulty} faulty, seed {seed}: {e}"));
+            all.push(seen);
+            seed += 1;
+        }
+    }
+    let kings = all.iter().filter(|seen| seen.kings_differed).count();
+    let late = all.iter().filter(|seen| seen.last_join > 3).count();
+    let divided = all.iter().filter(|seen| seen.last_divided >= 9).count();
+    println!(
+        "sizes {sizes:?}, {} runs, last seed {}: kings differed in {kings}, a candidate joined late in {late}, \
+         bits differed past phase 1 in {divided}",
+        all.len(),
+        seed - 1
+    );
+    assert!(kings > 0 && late > 0 && divided > 0);
+}
+
+#[test]
+fn small_lines_agree() {
+    run_sizes(1..=10, 400);
+}
+
+#[test]
+fn middle_lines_agree() {
+    run_sizes(11..=31, 12);
+}
+
+#[test]
+fn large_lines_agree() {
+    run_sizes(32..=64, 2);
+}
+
+/// The first seed whose run breaks a claim, and how.
+fn broken<C: Calls>(size: usize, faulty: usize, claim: &str) -> Option<(u64, String)> {
+    let runs = (1..5000).map(|seed| (seed, run::<C>(size, faulty, seed)));
+    runs.filter_map(|(seed, end)| Some((seed, end.err()?)))
+        .find(|(_, broken)| broken.starts_with(claim))
+}
+
+/// The bound is sharp, and the checks can fail: liars that are a third or more
+/// break each claim in some run. (Where they are just a third, the proper ones
+/// are two thirds, and what these all bring in still holds.)
+#[test]
+fn a_third_of_liars_breaks_a_line() {
+    let cases = [
+        (3, 1, "not all decided"),
+        (3, 1, "no agreement"),
+        (6, 2, "not all decided"),
+        (6, 2, "no agreement"),
+        (7, 3, "no proper one"),
+    ];
+    for (size, faulty, claim) in cases {
+        let found = broken::<Engine>(size, faulty, claim);
+        println!("{size} with {faulty} faulty: {found:?}");
+        assert!(found.is_some(), "{size} with {faulty} faulty: {claim}");
+    }
+}
+
+/// With a third rounded down, a line breaks though liars are few enough.
+#[cfg(feature = "fault")]
+#[test]
+fn a_line_of_faulty_references_breaks() {
+    use checks::calls::Reference;
+    let found = broken::<Reference>(4, 1, "no agreement");
+    println!("found: {found:?}");
+    assert!(found.is_some());
+}
+
+/// The liar of document 01's last trial.
+struct Three;
+
+impl Liars for Three {
+    fn entries(&mut self, view: &View, receiver: usize) -> Vec<Entry> {
+        let to = view.proper[receiver].number;
+        let bytes = match view.round {
+            1 if to != 9 => frame(1, NONE, &[]),
+            2 if to == 9 => frame(2, NONE, &[3]),
+            _ => return Vec::new(),
+        };
+        vec![Entry { sender: 3, bytes }]
+    }
+}
+
+/// Proper 5, 7, 9 and faulty 3: who is king in which phase, and when all decide.
+#[test]
+fn the_last_trial() {
+    for bits in 0..8u8 {
+        let proper = [(5, bits & 1), (7, bits >> 1 & 1), (9, bits >> 2)];
+        let mut line = Line::<Engine>::start(&proper, 1, 1).expect("a start");
+        let mut kings = Vec::new();
+        while line.proper[0].fields().round < 15 {
+            assert!(line.proper.iter().all(|p| p.fields().undecided()));
+            line.step(&mut Three).expect("a worked round");
+            let states = line.proper.iter().map(|p| p.fields());
+            kings.push(states.map(|s| s.king).collect::<Vec<_>>());
+        }
+        // kings[t - 2] is after the making of round t.
+        assert_eq!(kings[1], [5, 5, 3]);
+        assert_eq!(kings[4], [5, 5, 5]);
+        let states: Vec<_> = line.proper.iter().map(|p| p.fields()).collect();
+        assert!(states.iter().all(|s| s.candidates == [3, 5, 7, 9]));
+        assert!(states.iter().all(|s| s.decision == states[0].decision));
+        assert!(states.iter().all(|s| !s.undecided()));
+    }
+}

@@ -1,0 +1,178 @@
+//! Document 01's trials and its listing, on the reference.
+
+#![cfg(not(feature = "fault"))]
+
+use reference::{frame, reaches_third, reaches_two_thirds, IMAGE_LEN};
+
+const WORKED: u8 = 0;
+const INIT: [u8; 8] = [0, 0, 0, 1, 1, 2, 0, 0];
+
+struct Controller {
+    image: [u8; IMAGE_LEN],
+    out: [u8; 264],
+    length: usize,
+}
+
+impl Controller {
+    fn start(number: u32, bit: u8) -> Controller {
+        let mut new = Controller {
+            image: [0xAA; IMAGE_LEN],
+            out: [0x55; 264],
+            length: 77,
+        };
+        let Controller { image, out, length } = &mut new;
+        assert_eq!(reference::start(number, bit, image, out, length), WORKED);
+        new
+    }
+
+    fn tray(&mut self, tray: &[u8]) -> u8 {
+        reference::tray(&mut self.image, tray, &mut self.out, &mut self.length)
+    }
+
+    /// The printer's line: the frame sent, then the state.
+    fn line(&self) -> String {
+        let (sent, image) = (&self.out, &self.image);
+        format!(
+            "{} {} {} {} {} {} {} {}",
+            reference::round(image),
+            sent[4],
+            sent[5],
+            u16::from_be_bytes([sent[6], sent[7]]),
+            reference::heard(image),
+            reference::candidates(image),
+            reference::king(image),
+            reference::decision(image)
+        )
+    }
+}
+
+fn empty_tray(round: u8) -> [u8; 8] {
+    [0, 0, 0, round, 0, 0, 0, 0]
+}
+
+/// A tray of one init from number 9, at an offset that the test chooses.
+fn tray_of_one(offset: u8) -> Vec<u8> {
+    let mut tray = vec![0, 0, 0, 1, 0, 1, 0, 0];
+    tray.extend([0, 0, 0, 9, 0, offset, 0, 8]);
+    tray.extend(INIT);
+    tray
+}
+
+fn roster(numbers: &[u32]) -> Vec<u8> {
+    let mut bytes = vec![0, 0, 0, 2, 2, 2, 0, numbers.len() as u8];
+    bytes.extend(numbers.iter().flat_map(|n| n.to_be_bytes()));
+    bytes
+}
+
+#[test]
+fn the_thresholds_of_the_trials() {
+    assert!(reaches_third(1, 1) && reaches_two_thirds(1, 1));
+    assert!(reaches_third(1, 3) && reaches_two_thirds(2, 3));
+    assert!(reaches_third(2, 4) && !reaches_third(1, 4));
+    assert!(reaches_two_thirds(3, 4) && !reaches_two_thirds(2, 4));
+    assert!(reaches_third(22, 64) && !reaches_third(21, 64));
+    assert!(reaches_two_thirds(43, 64) && !reaches_two_thirds(42, 64));
+}
+
+#[test]
+fn init_reads_and_a_wrong_bit_makes_it_void() {
+    assert!(frame::read(&INIT, 1).is_some());
+    assert!(frame::read(&INIT, 2).is_none());
+    let mut wrong = INIT;
+    wrong[5] = 0;
+    assert!(frame::read(&wrong, 1).is_none());
+}
+
+#[test]
+fn rosters_rise() {
+    let five_seven = roster(&[5, 7]);
+    let read = frame::read(&five_seven, 2).expect("a roster");
+    assert!(read.numbers().eq([5, 7]));
+    for list in [[7, 5], [5, 5], [0, 5]] {
+        assert!(frame::read(&roster(&list), 2).is_none());
+    }
+}
+
+#[test]
+fn a_list_of_64_reads_and_one_of_65_is_void() {
+    let numbers: Vec<u32> = (1..=65).collect();
+    assert!(frame::read(&roster(&numbers[..64]), 2).is_some());
+    assert!(frame::read(&roster(&numbers), 2).is_none());
+}
+
+#[test]
+fn the_layout_trials() {
+    let mut c = Controller::start(7, 1);
+    assert_eq!(c.tray(&[0, 0, 0, 1, 0, 0, 0, 0, 0]), 4);
+    assert_eq!(c.tray(&empty_tray(1)[..7]), 4);
+    assert_eq!(c.tray(&tray_of_one(17)), 4);
+    assert_eq!(c.tray(&empty_tray(2)), 5);
+    assert_eq!(c.length, 0);
+    assert_eq!(c.tray(&tray_of_one(16)), WORKED);
+    assert_eq!(c.line(), "2 2 2 2 2 0 0 2");
+    let mut alone = Controller::start(7, 1);
+    assert_eq!(alone.tray(&empty_tray(1)), WORKED);
+}
+
+#[test]
+fn a_refused_call_changes_the_length_alone() {
+    let mut c = Controller::start(7, 1);
+    let (image, out) = (c.image, c.out);
+    assert_eq!(c.tray(&empty_tray(2)), 5);
+    assert_eq!((c.image, c.out, c.length), (image, out, 0));
+}
+
+#[test]
+fn start_refuses() {
+    let mut image = [3; IMAGE_LEN];
+    let mut out = [4; 264];
+    let mut length = 5;
+    assert_eq!(reference::start(0, 1, &mut image, &mut out, &mut length), 9);
+    assert_eq!(reference::start(7, 2, &mut image, &mut [], &mut length), 9);
+    let short = &mut out[..263];
+    assert_eq!(reference::start(7, 1, &mut image, short, &mut length), 3);
+    let cut = &mut image[..1023];
+    assert_eq!(reference::start(0, 9, cut, &mut [], &mut length), 1);
+    assert_eq!((image, out, length), ([3; IMAGE_LEN], [4; 264], 0));
+}
+
+#[test]
+fn the_listing() {
+    let mut c = Controller::start(7, 1);
+    let mut lines = vec![c.line()];
+    for round in 1..=5 {
+        assert_eq!(c.tray(&empty_tray(round)), WORKED);
+        lines.push(c.line());
+    }
+    let expected = [
+        "1 1 2 0 1 0 0 2",
+        "2 2 2 1 1 0 0 2",
+        "3 3 1 0 1 1 7 2",
+        "4 4 1 0 1 1 7 2",
+        "5 5 1 1 1 1 7 2",
+        "6 3 1 0 1 1 0 1",
+    ];
+    assert_eq!(lines, expected);
+}
+
+#[test]
+fn a_run_alone_reaches_round_195_and_stops() {
+    let mut c = Controller::start(7, 0);
+    for round in 1..=194 {
+        assert_eq!(c.tray(&empty_tray(round)), WORKED);
+    }
+    assert_eq!(reference::round(&c.image), 195);
+    assert_eq!(c.tray(&empty_tray(195)), 2);
+}
+
+#[test]
+fn an_image_not_sound_has_no_answers() {
+    let mut c = Controller::start(7, 0);
+    c.image[1023] = 1;
+    assert_eq!(c.tray(&empty_tray(1)), 1);
+    assert_eq!(reference::decision(&c.image), 255);
+    let sizes = [reference::heard, reference::candidates, reference::echoes];
+    for call in sizes.iter().chain(&[reference::round, reference::king]) {
+        assert_eq!(call(&c.image), 0);
+    }
+}

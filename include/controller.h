@@ -1,0 +1,120 @@
+/*
+ * The settle engine of one belt controller, for a host in C or C++.
+ *
+ * The host is the link layer: it keeps the clock, carries the frames, stamps
+ * true senders and packs each round's frames into a tray. The engine is one
+ * controller's part. A host starts it once, sends the frame that comes back,
+ * and then, round by round, hands over the tray of frames sent in that round
+ * and sends the next frame that comes back.
+ *
+ * Nothing is kept between calls: all state is in an image of 1,024 bytes that
+ * the host keeps and lends to each call. So one program may run any number of
+ * controllers, each with its own image, and calls on different images may run
+ * at the same time. The host writes nothing into an image itself.
+ *
+ * What every call asks of the host:
+ *   - each pointer is not null and is good for as many bytes as the length
+ *     beside it says, for the time of the call; pointers with const are read
+ *     only, the others are read and written;
+ *   - the regions lent to one call (image, tray, out, length) do not overlap.
+ *
+ * What every call gives: it reads and writes nothing but what was lent to it,
+ * and its answer depends on nothing else.
+ */
+#ifndef CONTROLLER_H
+#define CONTROLLER_H
+
+#include <stddef.h>
+#include <stdint.h>
+
+#ifdef __cplusplus
+extern "C" {
+#endif
+
+/* The length of a state's image. */
+#define CONTROLLER_IMAGE_LEN 1024
+
+/* The length of the longest frame, and the least room for output. */
+#define CONTROLLER_FRAME_LEN 264
+
+/* The length of the longest tray. */
+#define CONTROLLER_TRAY_LEN 65535
+
+/* The last round that is sent. */
+#define CONTROLLER_LAST_ROUND 195
+
+/* The answer for a call that was worked, then the refusals. */
+#define CONTROLLER_WORKED 0
+#define CONTROLLER_STATE_NOT_SOUND 1 /* or the image is not 1,024 bytes long */
+#define CONTROLLER_LAST_ROUND_SENT 2 /* the state's round is 195 */
+#define CONTROLLER_SHORT_OUTPUT 3    /* the output buffer is under 264 bytes */
+#define CONTROLLER_BAD_LAYOUT 4      /* the tray is not well packed */
+#define CONTROLLER_OTHER_ROUND 5     /* the tray's round is not the state's */
+#define CONTROLLER_BAD_SENDER 6      /* a sender is 0 or the own number */
+#define CONTROLLER_TOO_MANY_HEARD 7  /* more than 64 would be heard */
+#define CONTROLLER_TOO_MANY_LISTED 8 /* over 64 candidates or echoes would result */
+#define CONTROLLER_BAD_START 9       /* start: number 0, or bit over 1 */
+
+/* controller_decision: no decision yet, and no answer for an unsound image. */
+#define CONTROLLER_UNDECIDED 2
+#define CONTROLLER_NO_ANSWER 255
+
+/*
+ * Starts a controller with its number (not 0) and the bit that it brings in
+ * (0 or 1). The image is written, not read: it may hold anything before.
+ *
+ * Answers 0, or the first refusal that applies of: 1 (the image is not 1,024
+ * bytes long), 9, 3.
+ *
+ * On 0, all 1,024 bytes of the image are those of the new state, the init frame
+ * stands in front of out, *length is its length, and out keeps every byte past
+ * it. On a refusal, image and out keep every byte and *length becomes 0.
+ */
+uint8_t controller_start(uint32_t number, uint8_t bit,
+                         uint8_t *image, size_t image_len,
+                         uint8_t *out, size_t out_len,
+                         size_t *length);
+
+/*
+ * Works one tray: the frames sent by the others in the state's round. Makes the
+ * next round and writes the frame to send in it. A void frame in a well packed
+ * tray is passed over.
+ *
+ * Answers 0, or the first refusal that applies of: 1 (the image is not 1,024
+ * bytes long or its state is not sound), 2, 3, 4, 5, 6, 7, 8.
+ *
+ * On 0, all 1,024 bytes of the image are those of the new state, the frame
+ * stands in front of out, *length is its length, and out keeps every byte past
+ * it. On a refusal, image and out keep every byte and *length becomes 0; the
+ * call may be repeated with another tray or buffer.
+ */
+uint8_t controller_tray(uint8_t *image, size_t image_len,
+                        const uint8_t *tray, size_t tray_len,
+                        uint8_t *out, size_t out_len,
+                        size_t *length);
+
+/*
+ * The decision: 0, 1, or 2 for none yet. 255 for an image that
+ * controller_tray would refuse under 1.
+ */
+uint8_t controller_decision(const uint8_t *image, size_t image_len);
+
+/* The last round sent. 0 for an image that controller_tray would refuse under 1. */
+uint32_t controller_round(const uint8_t *image, size_t image_len);
+
+/* The king, 0 for none. 0 also where controller_tray would refuse under 1. */
+uint32_t controller_king(const uint8_t *image, size_t image_len);
+
+/*
+ * How many numbers the list of heard ones, of candidates or of echoes has.
+ * 0 also where controller_tray would refuse under 1.
+ */
+uint32_t controller_heard(const uint8_t *image, size_t image_len);
+uint32_t controller_candidates(const uint8_t *image, size_t image_len);
+uint32_t controller_echoes(const uint8_t *image, size_t image_len);
+
+#ifdef __cplusplus
+}
+#endif
+
+#endif
