@@ -13,9 +13,10 @@
  * at the same time. The host writes nothing into an image itself.
  *
  * What every call asks of the host:
- *   - each pointer is not null and is good for as many bytes as the length
- *     beside it says, for the time of the call; pointers with const are read
- *     only, the others are read and written;
+ *   - each pointer is good for as many bytes as the length beside it says, for
+ *     the time of the call (where that is 0 it may be null), and length points
+ *     to a size_t; pointers with const are read only, the others are read and
+ *     written;
  *   - the regions lent to one call (image, tray, out, length) do not overlap.
  *
  * What every call gives: it reads and writes nothing but what was lent to it,

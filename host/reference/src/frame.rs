@@ -92,15 +92,15 @@ pub fn write(round: u32, bit: u8, list: &[u32], out: &mut [u8]) -> usize {
 
 /// Big-endian numbers out of bytes.
 pub(crate) fn numbers(bytes: &[u8]) -> impl ExactSizeIterator<Item = u32> + '_ {
-    let (numbers, _) = bytes.as_chunks::<4>();
-    numbers.iter().map(|&number| u32::from_be_bytes(number))
+    bytes
+        .chunks_exact(4)
+        .map(|number| u32::from_be_bytes(number.try_into().expect("four bytes")))
 }
 
 /// Numbers into big-endian bytes, as many as both have.
 pub(crate) fn write_numbers(list: &[u32], bytes: &mut [u8]) {
-    let (places, _) = bytes.as_chunks_mut::<4>();
-    for (place, number) in places.iter_mut().zip(list) {
-        *place = number.to_be_bytes();
+    for (place, number) in bytes.chunks_exact_mut(4).zip(list) {
+        place.copy_from_slice(&number.to_be_bytes());
     }
 }
 

@@ -12,7 +12,7 @@ const MAX_TRAY: usize = 65_535;
 /// The directory of a well packed tray.
 pub struct Directory<'a> {
     tray: &'a [u8],
-    entries: &'a [[u8; ENTRY]],
+    entries: &'a [u8],
 }
 
 struct Entry {
@@ -43,7 +43,7 @@ impl<'a> Directory<'a> {
         if tray.len() > MAX_TRAY || count > MAX_ENTRIES {
             return None;
         }
-        let entries = rest.as_chunks().0.get(..count)?;
+        let entries = rest.get(..ENTRY * count)?;
         let directory = Directory { tray, entries };
         let mut end = HEADER + ENTRY * count;
         for entry in directory.entries() {
@@ -93,7 +93,9 @@ impl<'a> Directory<'a> {
     }
 
     fn entries(&self) -> impl Iterator<Item = Entry> + 'a {
-        self.entries.iter().map(Entry::read)
+        self.entries
+            .chunks_exact(ENTRY)
+            .map(|bytes| Entry::read(bytes.try_into().expect("an entry's bytes")))
     }
 }
 
