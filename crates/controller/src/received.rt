@@ -176,14 +176,7 @@ fn entry_said(tray: &[u8], entry: usize, round: u32) -> Read
 }
 
 // What the frame received under the number `x` says, if `entry` is its first entry. Numbers and a slice only: no struct is copied for each number.
-pub(crate) fn received_said(
-    own: u32,
-    round: u32,
-    said: u8,
-    tray: &[u8],
-    x: u32,
-    entry: usize,
-) -> Read
+fn received_said(own: u32, round: u32, said: u8, tray: &[u8], x: u32, entry: usize) -> Read
     ensures { λ r. ⌜ r ≡ saidUnder own round said (now (tray .entry)) x entry ⌝ }
 {
     if x == own {
