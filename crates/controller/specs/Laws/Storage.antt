@@ -1,5 +1,5 @@
 -- Laws of stored lists: the place of a number, a number put in at its place, and what the stored form is then.
-use Prim.Native.Nat.{ℕ, suc, _+_, _-_, _≤_, _<_}
+use Prim.Native.Nat.{ℕ, zero, suc, _+_, _-_, _≤_, _<_}
 use mathlib.Core.Path.{_≡_, refl, sym, ap, _∙_}
 use mathlib.Core.Bool.{true, false, Bool, cond}
 use mathlib.Core.Logic.{inl, inr, _≢_}
@@ -41,6 +41,27 @@ below-length x l = omega (arith, count-split (λ y. ltb y x) l)
 
 pub below-misses : (x : ℕ) (l : List ℕ) → length l ≤ below x l → mem x l ≡ false
 below-misses x l h = out-mem l (λ i. absurd (omega (arith, count-short (λ y. ltb y x) x i (le-ltb x x (omega arith)))))
+
+-- a search may start at any place that is not behind that of x
+pub below-from : (x : ℕ) (l : List ℕ) (i : ℕ) → Rising l → i ≤ below x l → below x l ≡ i + below x (drop i l)
+below-from x l zero up h = omega arith
+below-from x [] (suc i) up h = absurd (omega arith)
+below-from x (y ∷ l) (suc i) up h = elim (true-or-false (ltb y x)) [
+  | inl t ↦ let rest = below-from x l i (up .1) (omega (arith, rw t at h)) in rw t (omega arith)
+  | inr t ↦
+      let none : below x l ≡ 0 = count-none (λ z. ltb z x) l (λ z j. le-ltb z x (omega (arith, ltb-false y x t, up .0 z j))) in
+      absurd (omega (arith, rw t at h))
+]
+
+-- a greater number's place is not before it
+pub below-more : (x y : ℕ) (l : List ℕ) → x ≤ y → below x l ≤ below y l
+below-more x y [] h = omega arith
+below-more x y (z ∷ l) h =
+    let rest = below-more x y l h in
+    elim (true-or-false (ltb z x)) [
+      | inl t ↦ rw (t, lt-ltb z y (omega (arith, ltb-true z x t))) (omega arith)
+      | inr t ↦ elim (true-or-false (ltb z y)) [ inl u ↦ rw (t, u) (omega arith) | inr u ↦ rw (t, u) rest ]
+    ]
 
 -- ---- a number put in at its place
 
