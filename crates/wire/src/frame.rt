@@ -4,11 +4,12 @@ ghost use mathlib.Core.Bool.{cond, _&&_};
 ghost use mathlib.Core.List.{[]};
 ghost use mathlib.Core.Option.{some, none};
 ghost use Prim.Native.Nat.{_+_, _*_, _≤_};
+ghost use lib.Dec.{leb};
 ghost use lib.ListN.{length};
 ghost use lib.Seq.{sets};
 ghost use Rattle.wire.specs.Limits.{frameHeader, numberWidth, maxNumbers};
 ghost use Rattle.wire.specs.Numbers.{rising, stored};
-ghost use Rattle.wire.specs.Words.{wordsAt, wordsBytes};
+ghost use Rattle.wire.specs.Words.{wordAt, wordsAt, wordsBytes};
 ghost use Rattle.wire.specs.Frame.{kindOf, chosenBy, saidBy, bitFits, maxCount, countOf, contentOf, readStored, lengthFits, headFits, bodyFits, roundFits, content, FrameReads, bitChosen, kindSaid, bitSaid, chosenFits, saidFits, writable, headerBytes, FrameWrites};
 use crate::limits::BIT_AT;
 use crate::limits::COUNT_AT;
@@ -324,6 +325,31 @@ pub fn read_said(bytes: &[u8], round: u32) -> Read
         Read::Valid(Frame { round, said })
     } else {
         Read::Void
+    }
+}
+
+// How many numbers bytes list in a round; 0 where they are void.
+pub fn read_count(bytes: &[u8], round: u32) -> usize
+    ensures { λ r. ⌜ r ≡ (readStored (content (now (bytes .entry)) round)) .numbers .len ⌝ }
+{
+    if is_frame(bytes, round) {
+        half(bytes, COUNT_AT)
+    } else {
+        0
+    }
+}
+
+// The number at a place of a frame's list; 0 where the bytes end before it.
+pub fn read_number(bytes: &[u8], i: usize) -> u32
+    ensures { λ r. ⌜ r ≡ cond (leb (frameHeader + numberWidth * (i + 1)) (length (now (bytes .entry)))) (wordAt (now (bytes .entry)) (frameHeader + numberWidth * i)) 0 ⌝ }
+{
+    if bytes.len() < FRAME_HEADER {
+        return 0;
+    }
+    if i < (bytes.len() - FRAME_HEADER) / NUMBER_WIDTH {
+        word(bytes, FRAME_HEADER + NUMBER_WIDTH * i)
+    } else {
+        0
     }
 }
 

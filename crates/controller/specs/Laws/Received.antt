@@ -138,9 +138,6 @@ frame-reads v h = reads-written (frameOf v) (frame-writable v h)
 pub frame-says : (v : View) → Sound v → (k b : ℕ) → says k b (some (frameOf v)) ≡ (eqb (kindOf (v .round)) k && eqb (v .said) b)
 frame-says v h k b = rw (frame-kind v, frame-bit v h)
 
-pub frame-opinion : (v : View) → Sound v → opinionIn (some (frameOf v)) ≡ cond (eqb (kindOf (v .round)) 5) (v .said) 2
-frame-opinion v h = rw (frame-kind v, frame-bit v h)
-
 pub frame-list : (v : View) → listIn (some (frameOf v)) ≡ cond (ltb 0 (maxCount (kindOf (v .round)))) (v .echoes) []
 unfolding frameOf
 frame-list v = refl
