@@ -16,8 +16,8 @@
 --     namedState n w r         the state n with the decision and the king that (c) gives in phase r, from the state w before the step
 --     MakesState s b r         r has the state that the step makes, and says whether its lists fit
 use Prim.Native.Nat.{ℕ, _+_, _*_, _<_, _≤_}
-use mathlib.Core.Bool.{true, false, not, cond, _&&_, Bool}
-use mathlib.Core.List.{List, _∷_, _++_, []}
+use mathlib.Core.Bool.{true, false, not, cond, _&&_}
+use mathlib.Core.List.{List, _∷_, _++_}
 use mathlib.Core.Path.{_≡_}
 use lib.Dec.{leb, ltb}
 use lib.ListN.{length, getD, take, drop}

@@ -50,10 +50,6 @@ pub counted-append : (x : ℕ) (l m : List ℕ) → counted x (l ++ m) ≡ count
 counted-append x [] m = omega arith
 counted-append x (k ∷ l) m = let rest = counted-append x l m in omega arith
 
--- the first key's count is part of its number's
-counted-head : (k : ℕ) (l : List ℕ) → counted (k / 128) (k ∷ l) ≡ k % 128 + counted (k / 128) l
-counted-head k l = rw (eq-eqb (k / 128) (k / 128) refl)
-
 pub slim-rest : (x y : ℕ) (l m : List ℕ) → Slim (x ∷ l) (y ∷ m) → Slim l m × (Slim l (y ∷ m) × Slim (x ∷ l) m)
 slim-rest x y l m h = (λ z. omega (arith, h z), (λ z. omega (arith, h z), λ z. omega (arith, h z)))
 

@@ -1,5 +1,5 @@
 -- `controller::tally::place_from` meets its contract: the numbers passed are below x, and in a rising list none is from the first that is not.
-use Prim.Native.Nat.{ℕ, suc, _+_, _-_, _≤_, _<_}
+use Prim.Native.Nat.{ℕ, _+_, _-_, _≤_, _<_}
 use mathlib.Core.List.{List}
 use mathlib.Core.Path.{_≡_, ap}
 use native.Mathlib.Omega.{arith}
@@ -12,8 +12,6 @@ use Rattle.controller.specs.Laws.Storage.{below-step, below-stops, below
 use Rattle.controller.specs.Storage.{below}
 use Rattle.controller.proofs.tally.place_from.Statement.{statement}
 use Rattle.controller.proofs.tally.place_from.Tie as tie
-use Rattle.controller.proofs.tally.place_from.Reads as reads
-use Rattle.controller.proofs.tally.place_from.Lts as lts
 
 module _ (list : List ℕ) (len x i : ℕ) (up : Rising (take len list)) (fits : len ≤ length list) where
   used : length (take len list) ≡ len
