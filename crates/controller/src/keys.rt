@@ -1,4 +1,5 @@
-// Numbers with their counts, one key each: number * 128 + count. Rising lists of keys are merged, the counts of equal numbers added.
+// Numbers with their counts, one key each: number * 128 + count. Rising lists of keys are merged, the counts of equal numbers added. A count is at
+// most the number of lists, 64.
 ghost use mathlib.Core.Bool.{cond};
 ghost use mathlib.Core.List.{_++_};
 ghost use mathlib.Core.Path.{_≡_};
@@ -39,7 +40,8 @@ fn copy(src: &[u64], from: usize, end: usize, dst: &mut [u64], to: usize) -> usi
     k
 }
 
-// Merges the keys from `a` to `b` with those from `b` to `e` into `dst` from `to` on, and returns the place behind them.
+// Merges the keys from `a` to `b` with those from `b` to `e` into `dst` from `to` on, and returns the place behind them. `x` and `y` are the first
+// keys that are left, `u` and `v` those behind them, which are read before it is known which is needed.
 pub(crate) fn merge(src: &[u64], a: usize, b: usize, e: usize, dst: &mut [u64], to: usize) -> usize
     requires { ⌜ Mergeable (now src) (now dst) a b e to ⌝ }
     ensures { λ r. ⌜ Merges (now (src .entry)) (now (dst .entry)) (now (dst .exit)) a b e to r ⌝ }

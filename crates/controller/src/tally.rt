@@ -1,7 +1,6 @@
 // The tally of the received lists, and what it makes of echoes and candidates. The lists rise, so that merging them, the counts of equal numbers
 // added, leaves each number once with its count, least number first.
 ghost use mathlib.Core.Bool.{true};
-ghost use mathlib.Core.List.{_++_};
 ghost use mathlib.Core.Path.{_≡_};
 ghost use Prim.Native.Nat.{_+_, _*_, _≤_, _<_};
 ghost use lib.ListN.{length, take};
@@ -217,6 +216,14 @@ pub(crate) fn grow(state: State, tray: &[u8], heard: Numbers, firsts: Firsts) ->
     if heard.len <= 8 {
         let mut a = [0u64; 520];
         let mut b = [0u64; 520];
+        grow_in(state, tray, heard, firsts, &mut a, &mut b)
+    } else if heard.len <= 16 {
+        let mut a = [0u64; 1032];
+        let mut b = [0u64; 1032];
+        grow_in(state, tray, heard, firsts, &mut a, &mut b)
+    } else if heard.len <= 32 {
+        let mut a = [0u64; 2056];
+        let mut b = [0u64; 2056];
         grow_in(state, tray, heard, firsts, &mut a, &mut b)
     } else {
         let mut a = [0u64; 4104];

@@ -50,7 +50,6 @@ pub counted-append : (x : ℕ) (l m : List ℕ) → counted x (l ++ m) ≡ count
 counted-append x [] m = omega arith
 counted-append x (k ∷ l) m = let rest = counted-append x l m in omega arith
 
--- the first key's count is part of its number's
 pub slim-rest : (x y : ℕ) (l m : List ℕ) → Slim (x ∷ l) (y ∷ m) → Slim l m × (Slim l (y ∷ m) × Slim (x ∷ l) m)
 slim-rest x y l m h = (λ z. omega (arith, h z), (λ z. omega (arith, h z), λ z. omega (arith, h z)))
 

@@ -154,7 +154,6 @@ pub grown-fits : (l : List ℕ) (n m : Numbers) → length l ≤ maxNumbers → 
 unfolding grown
 grown-fits l n m h e = rw (e, le-leb (length l) maxNumbers h)
 
--- a list that stays as it is
 pub grown-full : (l : List ℕ) (n : Numbers) → maxNumbers < length l → _≡_ {A = Grown} (record { fits = false; list = n }) (grown l n)
 unfolding grown
 grown-full l n h = rw (lt-leb (length l) maxNumbers h)

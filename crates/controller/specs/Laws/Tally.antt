@@ -1,7 +1,7 @@
 -- Laws of the work on the tally: the received lists as keys count each number as `tally` does, and the lists that such keys give are the rules'.
-use Prim.Native.Nat.{ℕ, suc, _+_, _*_, _-_, _/_, _%_, _≤_, _<_}
-use mathlib.Core.Bool.{Bool, true, false, not, cond, _&&_, true≢false, and-eq-true-iff}
-use mathlib.Core.List.{List, [], _∷_, _++_, List·Memᴰ·not-nil, Memᴰ·cast}
+use Prim.Native.Nat.{ℕ, _+_, _*_, _-_, _/_, _%_, _≤_, _<_}
+use mathlib.Core.Bool.{true, not}
+use mathlib.Core.List.{List, [], _++_, List·Memᴰ·not-nil, Memᴰ·cast}
 use mathlib.Core.Logic.{_⊎_, inl, inr}
 use mathlib.Core.Option.{Option, some, none}
 use mathlib.Core.Path.{_≡_, refl, sym, ap, _∙_}
@@ -18,15 +18,14 @@ use Rattle.wire.specs.Limits.{maxNumbers}
 use Rattle.wire.specs.Numbers.{stored, listed}
 use Rattle.wire.specs.Tray.{Entry, entries}
 use Rattle.wire.specs.declared.frame.Numbers.{Numbers}
-use Rattle.controller.specs.Lists.{In, Inside, mem, countIf, Rising}
-use Rattle.controller.specs.Keys.{counted, RisingKeys, merged, Slim, Cut, Keyed, OneRun, keysOf, numbersIn, reaching, newTo, PutsKeys}
-use Rattle.controller.specs.Thirds.{third, twoThirds}
+use Rattle.controller.specs.Lists.{In, mem, countIf, Rising}
+use Rattle.controller.specs.Keys.{counted, RisingKeys, merged, Slim, Cut, OneRun, keysOf, numbersIn, reaching, newTo, PutsKeys}
 use Rattle.controller.specs.State.{View, view, sound, soundList}
 use Rattle.controller.specs.Received.{heardAfter, received, listIn}
 use Rattle.controller.specs.Rotation.{tally, echoed, candidatesAfter}
 use Rattle.controller.specs.Storage.{Tallies, echoesIn, candidatesIn, SortsOut, GrowsLists}
 use Rattle.controller.specs.Laws.Keys.{counted-append, merged-counts, merged-every, merged-rises, cut-more, keys-length, keys-every, keys-rise, keys-counted, numbers-in, numbers-from, numbers-rise, key-count, counted-some, keep-keys, keep-counted}
-use Rattle.controller.specs.Laws.Lists.{true-or-false, mem-in, in-mem, out-mem, mem-out, in-or-not, rising-gives, rising-same, rising-place, count-length, count-short, keep-in}
+use Rattle.controller.specs.Laws.Lists.{true-or-false, in-mem, out-mem, mem-out, in-or-not, rising-gives, rising-same, rising-place, count-length, count-short, keep-in}
 use Rattle.controller.specs.Laws.Thirds.{third-is, two-thirds-is}
 use Rattle.controller.specs.Laws.State.{SoundList, Sound, sound-list-gives, sound-list-test, sound-gives, sound-stored}
 use Rattle.controller.specs.Laws.Received.{heard-some, received-allowed}
@@ -164,8 +163,8 @@ module _ (v : View) (es : List Entry) (l : List ℕ)
         let r = counted-some x l (omega (arith, counts x, heard-some v es h)) in
         let k = r .0 in
         let tallied : k % 128 ≡ tally v es x = rw (r .2) at (key-tally (r .1)) in
-        let third = keep-in (λ (y : ℕ). leb n (3 * (y % 128))) l .1 (r .1, le-leb n (3 * (k % 128)) (omega arith)) in
-        (k, keep-in (λ (y : ℕ). not (mem (y / 128) (v .candidates))) (reaching n l) .1 (third, ap not (out-mem (v .candidates) (rw (r .2) out))), r .2)
+        let reaches = keep-in (λ (y : ℕ). leb n (3 * (y % 128))) l .1 (r .1, le-leb n (3 * (k % 128)) (omega arith)) in
+        (k, keep-in (λ (y : ℕ). not (mem (y / 128) (v .candidates))) (reaching n l) .1 (reaches, ap not (out-mem (v .candidates) (rw (r .2) out))), r .2)
 
     new-rises : RisingKeys new
     unfolding new

@@ -1,21 +1,14 @@
 -- `controller::keys::halve` meets its contract: the runs gone through are merged, the others are left, and together they count as all did.
-use Prim.Native.Nat.{ℕ, _+_, _-_, _≤_, _<_}
-use mathlib.Core.List.{List, []}
-use mathlib.Core.Path.{_≡_, refl, sym, _∙_}
+use Prim.Native.Nat.{_+_, _-_}
+use mathlib.Core.Path.{_≡_, refl}
 use native.Mathlib.Omega.{arith}
 use borrow.Author.Needs.{needs}
 use denote.Ref.{now}
-use lib.ListN.{length, take}
-use lib.Seq.{slice}
+use lib.ListN.{length}
 use Rattle.wire.specs.Limits.{maxNumbers}
-use Rattle.controller.specs.Keys.{counted, Keyed, Halves}
 use Rattle.controller.specs.Laws.Keys.{Halving, pair-runs, halving-start, halving-pair, halving-mergeable, halving-more, halving-end}
 use Rattle.controller.proofs.keys.halve.Statement.{statement}
 use Rattle.controller.proofs.keys.halve.Tie as tie
-use Rattle.controller.proofs.keys.halve.Reads as reads
-use Rattle.controller.proofs.keys.halve.Lts as lts
-use Rattle.controller.proofs.keys.length_at.Reads as length-at-reads
-use Rattle.controller.proofs.keys.merge.Reads as merge-reads
 
 abbrev Inv-loop : tie.InvT-loop
 Inv-loop src runs dst₀ lens at₀ from₀ to₀ i₀ j₀ dst at from to i j = Halving src lens (runs .len) (runs .end) dst at from to i j × (length dst ≡ length dst₀)

@@ -4,8 +4,6 @@ use borrow.Author.Tests.{lt-ltb, le-ltb}
 use borrow.Author.Needs.{needs}
 use Rattle.controller.proofs.keys.length_at.Statement.{statement}
 use Rattle.controller.proofs.keys.length_at.Tie as tie
-use Rattle.controller.proofs.keys.length_at.Reads as reads
-use Rattle.controller.proofs.keys.length_at.Lts as lts
 
 mul-result : tie.Need-mul-result
 mul-result c = search needs

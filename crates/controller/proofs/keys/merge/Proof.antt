@@ -1,7 +1,7 @@
 -- `controller::keys::merge` meets its contract: what is written so far and the merge of what is left of the two parts are the whole.
 use Prim.Native.Nat.{ℕ, _+_, _-_, _≤_, _<_, _/_, _%_}
 use mathlib.Core.Bool.{cond}
-use mathlib.Core.List.{List, _∷_, _++_, append-nil}
+use mathlib.Core.List.{List, _∷_, _++_}
 use mathlib.Core.Logic.{_≢_}
 use mathlib.Core.Path.{_≡_, refl, sym, ap, _∙_}
 use native.Mathlib.Decide.{decLt}
@@ -13,15 +13,11 @@ use borrow.Author.Tests.{lt-ltb, le-ltb}
 use denote.Ref.{now}
 use lib.Dec.{ltb}
 use lib.ListN.{length, getD, set, take, length-set}
-use lib.Seq.{slice, slice-cons, slice-empty}
-use Rattle.controller.specs.Keys.{merged, Slim, Mergeable, Merges}
+use lib.Seq.{slice, slice-cons}
+use Rattle.controller.specs.Keys.{merged, Slim, Mergeable}
 use Rattle.controller.specs.Laws.Keys.{slice-none, merged-none, merged-all, merged-both, merged-first, merged-second, slim-rest, slim-heads, one-more}
 use Rattle.controller.proofs.keys.merge.Statement.{statement}
 use Rattle.controller.proofs.keys.merge.Tie as tie
-use Rattle.controller.proofs.keys.merge.Reads as reads
-use Rattle.controller.proofs.keys.merge.Lts as lts
-use Rattle.controller.proofs.keys.copy.Reads as copy-reads
-use Rattle.controller.proofs.keys.pick.Reads as pick-reads
 
 -- the parts from i to b and from j to e are left, their first keys are x and y, and k is the next place to write
 record Going (src dst₀ : List ℕ) (a b e to : ℕ) (dst : List ℕ) (i j k x y : ℕ) : Type 0 where

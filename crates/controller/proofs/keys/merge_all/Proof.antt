@@ -1,5 +1,5 @@
 -- `controller::keys::merge_all` meets its contract: each turn leaves fewer runs, which count as before; one run, or none, rises.
-use Prim.Native.Nat.{ℕ, _≤_}
+use Prim.Native.Nat.{ℕ}
 use mathlib.Core.Path.{_≡_, refl, _∙_}
 use native.Mathlib.Omega.{arith}
 use borrow.Author.Needs.{needs}
@@ -8,9 +8,6 @@ use Rattle.controller.specs.Keys.{counted, Keyed}
 use Rattle.controller.specs.Laws.Keys.{cut-one}
 use Rattle.controller.proofs.keys.merge_all.Statement.{statement}
 use Rattle.controller.proofs.keys.merge_all.Tie as tie
-use Rattle.controller.proofs.keys.merge_all.Reads as reads
-use Rattle.controller.proofs.keys.merge_all.Lts as lts
-use Rattle.controller.proofs.keys.halve.Reads as halve-reads
 
 abbrev Inv-loop : tie.InvT-loop
 Inv-loop a₀ b₀ r₀ len₀ a b r len =

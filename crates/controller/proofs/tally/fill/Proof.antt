@@ -1,8 +1,8 @@
 -- `controller::tally::fill` meets its contract: the lists gone through are in, and together with those that are left they count as all do.
-use Prim.Native.Nat.{ℕ, _+_, _*_, _-_, _≤_, _<_}
+use Prim.Native.Nat.{ℕ, _-_, _≤_}
 use mathlib.Core.List.{List}
 use mathlib.Core.Option.{Option, some, none}
-use mathlib.Core.Path.{_≡_, refl, sym, ap, _∙_}
+use mathlib.Core.Path.{_≡_, refl, ap}
 use native.Mathlib.Omega.{arith}
 use borrow.Author.Needs.{needs}
 use denote.Ref.{now}
@@ -13,17 +13,12 @@ use Rattle.controller.specs.Laws.Tally.{listAt, list-at-sound, Filling, 
 use Rattle.controller.specs.Received.{heardAfter, received, listIn}
 use Rattle.controller.specs.State.{View, view}
 use Rattle.wire.specs.Frame.{Content, readStored}
-use Rattle.wire.specs.Limits.{maxNumbers}
 use Rattle.wire.specs.Numbers.{stored, listed}
 use Rattle.wire.specs.Tray.{Entry, entries}
 use Rattle.wire.specs.declared.frame.FrameRead.{FrameRead}
 use Rattle.wire.specs.declared.frame.Numbers.{Numbers}
 use Rattle.controller.proofs.tally.fill.Statement.{statement}
 use Rattle.controller.proofs.tally.fill.Tie as tie
-use Rattle.controller.proofs.tally.fill.Reads as reads
-use Rattle.controller.proofs.tally.fill.Lts as lts
-use Rattle.controller.proofs.received.received.Reads as received-reads
-use Rattle.controller.proofs.tally.put_keys.Reads as put-keys-reads
 
 numbers-are : (o : Option Content) → (readStored o) .numbers ≡ stored (listIn o)
 numbers-are none = refl

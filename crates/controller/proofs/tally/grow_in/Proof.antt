@@ -10,11 +10,6 @@ use Rattle.controller.specs.Laws.Ready.{ready-size, ready-few}
 use Rattle.controller.specs.Laws.Tally.{candidates-tests, sorted-grows}
 use Rattle.controller.proofs.tally.grow_in.Statement.{statement}
 use Rattle.controller.proofs.tally.grow_in.Tie as tie
-use Rattle.controller.proofs.tally.grow_in.Reads as reads
-use Rattle.controller.proofs.tally.grow_in.Lts as lts
-use Rattle.controller.proofs.keys.merge_all.Reads as merge-all-reads
-use Rattle.controller.proofs.tally.fill.Reads as fill-reads
-use Rattle.controller.proofs.tally.sort_out.Reads as sort-out-reads
 
 candidate-fits : (c : tie.Start) (i : ℕ) → Fits w32 (getD (c .args .state .candidates .at) i 0)
 candidate-fits c i = search needs

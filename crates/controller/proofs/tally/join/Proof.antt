@@ -1,20 +1,18 @@
 -- `controller::tally::join` meets its contract: the list's keys stand behind the others, the two are merged, and their numbers are taken.
-use Prim.Native.Nat.{ℕ, _+_, _≤_, _<_}
-use mathlib.Core.Bool.{true, false}
-use mathlib.Core.List.{List, _++_}
+use Prim.Native.Nat.{ℕ, _≤_}
+use mathlib.Core.List.{List}
 use mathlib.Core.Logic.{inl, inr}
-use mathlib.Core.Path.{_≡_, refl, sym, ap, _∙_}
+use mathlib.Core.Path.{_≡_, sym, ap, _∙_}
 use native.Mathlib.Omega.{arith}
 use borrow.Author.Needs.{needs}
 use denote.Ref.{now}
 use lib.ListN.{length, take}
 use lib.Seq.{slice, take-at, drop-at, take-take, length-take-le}
-use Rattle.wire.specs.Limits.{maxNumbers}
 use Rattle.wire.specs.Numbers.{stored, listed}
 use Rattle.wire.specs.declared.frame.Numbers.{Numbers}
 use Rattle.controller.specs.Lists.{mem}
 use Rattle.controller.specs.Keys.{RisingKeys, merged, Slim, Mergeable, Merges, keysOf, numbersIn, joinedBy, PutsKeys, Joinable}
-use Rattle.controller.specs.Laws.Keys.{merged-rises, keys-rise, keys-counted, keys-length, numbers-length}
+use Rattle.controller.specs.Laws.Keys.{merged-rises, keys-rise, keys-counted, numbers-length}
 use Rattle.controller.specs.Laws.Lists.{true-or-false}
 use Rattle.controller.specs.Laws.State.{ListTests, sound-list-gives}
 use Rattle.controller.specs.Laws.Storage.{grown-fits, grown-full}
@@ -22,11 +20,6 @@ use Rattle.controller.specs.Laws.Tally.{listed-small}
 use borrow.Author.Needs.{needs}
 use Rattle.controller.proofs.tally.join.Statement.{statement}
 use Rattle.controller.proofs.tally.join.Tie as tie
-use Rattle.controller.proofs.tally.join.Reads as reads
-use Rattle.controller.proofs.tally.join.Lts as lts
-use Rattle.controller.proofs.keys.merge.Reads as merge-reads
-use Rattle.controller.proofs.tally.numbers_of.Reads as numbers-of-reads
-use Rattle.controller.proofs.tally.put_keys.Reads as put-keys-reads
 
 module _ (a b : List ℕ) (end : ℕ) (n : Numbers) (f : List ℕ) (next : ℕ)
     (pre : Joinable a b end n)

@@ -1,14 +1,13 @@
 -- `controller::tally::keep_new` meets its contract: the keys of new numbers stand in front; numbers rise, so a number's place is not before that of the one before it.
 use Prim.Native.Nat.{ℕ, _+_, _-_, _≤_, _<_, _/_}
 use mathlib.Core.Bool.{Bool, true, false, not}
-use mathlib.Core.List.{List, _∷_, List·Memᴰ·head, List·Memᴰ·tail}
+use mathlib.Core.List.{List, _∷_, List·Memᴰ·head}
 use mathlib.Core.Path.{_≡_, refl, sym, ap, _∙_}
 use native.Mathlib.Omega.{arith}
 use borrow.Author.Needs.{needs}
 use denote.Ref.{now}
-use lib.ListN.{length, getD, set, take, length-take}
+use lib.ListN.{length, getD, set, length-take}
 use lib.Seq.{slice}
-use Rattle.wire.specs.Limits.{maxNumbers}
 use Rattle.wire.specs.Numbers.{listed}
 use Rattle.controller.specs.Lists.{In, mem}
 use Rattle.controller.specs.Keys.{RisingKeys}
@@ -18,10 +17,6 @@ use Rattle.controller.specs.Laws.State.{sound-list-gives}
 use Rattle.controller.specs.Laws.Storage.{below-more}
 use Rattle.controller.proofs.tally.keep_new.Statement.{statement}
 use Rattle.controller.proofs.tally.keep_new.Tie as tie
-use Rattle.controller.proofs.tally.keep_new.Reads as reads
-use Rattle.controller.proofs.tally.keep_new.Lts as lts
-use Rattle.controller.proofs.tally.place_from.Reads as place-from-reads
-use Rattle.controller.proofs.tally.stands_at.Reads as stands-at-reads
 
 abbrev isNew : List ℕ → ℕ → Bool
 isNew c k = not (mem (k / 128) c)

@@ -1,18 +1,13 @@
 -- `controller::tally::keep_reaching` meets its contract: the keys that reach the bar stand in front, and a turn goes over one more.
-use Prim.Native.Nat.{ℕ, _-_, _*_, _%_, _≤_}
-use mathlib.Core.List.{_++_}
-use mathlib.Core.Path.{_≡_, refl}
-use native.Mathlib.Omega.{arith}
+use Prim.Native.Nat.{ℕ, _-_, _*_, _%_}
+use mathlib.Core.Path.{refl}
 use borrow.Author.Needs.{needs}
 use borrow.Author.Tests.{lt-leb, le-leb}
 use denote.Ref.{now}
 use lib.Dec.{leb}
-use lib.ListN.{length, getD}
 use Rattle.controller.specs.Laws.Keys.{Keeping, keeping-drops, keeping-keeps, keeping-end}
 use Rattle.controller.proofs.tally.keep_reaching.Statement.{statement}
 use Rattle.controller.proofs.tally.keep_reaching.Tie as tie
-use Rattle.controller.proofs.tally.keep_reaching.Reads as reads
-use Rattle.controller.proofs.tally.keep_reaching.Lts as lts
 
 abbrev Inv-loop : tie.InvT-loop
 Inv-loop keys₀ end bar k₀ i₀ keys k i = Keeping (λ (y : ℕ). leb bar (3 * (y % 128))) keys₀ end keys k i

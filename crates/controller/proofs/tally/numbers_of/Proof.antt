@@ -1,19 +1,17 @@
 -- `controller::tally::numbers_of` meets its contract: the numbers gone through stand in their places, the others are 0.
-use Prim.Native.Nat.{ℕ, _+_, _-_, _≤_, _<_, _/_}
+use Prim.Native.Nat.{_-_, _≤_}
 use mathlib.Core.List.{_++_}
 use mathlib.Core.Path.{_≡_, refl, sym}
 use native.Mathlib.Omega.{arith}
 use borrow.Author.Needs.{needs}
 use denote.Ref.{now}
-use lib.ListN.{length, getD, take, replicate}
+use lib.ListN.{length, take, replicate}
 use lib.Seq.{getD-take, length-take-le}
 use Rattle.wire.specs.Limits.{maxNumbers}
 use Rattle.controller.specs.Keys.{numbersIn}
 use Rattle.controller.specs.Laws.Keys.{keys-fit, numbers-step, numbers-stored}
 use Rattle.controller.proofs.tally.numbers_of.Statement.{statement}
 use Rattle.controller.proofs.tally.numbers_of.Tie as tie
-use Rattle.controller.proofs.tally.numbers_of.Reads as reads
-use Rattle.controller.proofs.tally.numbers_of.Lts as lts
 
 abbrev Inv-loop : tie.InvT-loop
 Inv-loop keys end at₀ i₀ at i = (i ≤ end) × (at ≡ numbersIn (take i keys) ++ replicate (maxNumbers - i) 0)

@@ -1,23 +1,20 @@
 -- `controller::tally::put_keys` meets its contract: what is written so far and the keys of what is left are the whole.
-use Prim.Native.Nat.{ℕ, _+_, _*_, _-_, _≤_, _<_}
-use mathlib.Core.List.{List, _∷_, _++_, append-nil}
-use mathlib.Core.Path.{_≡_, refl, sym, ap, _∙_}
+use Prim.Native.Nat.{ℕ, _+_, _-_, _≤_, _<_}
+use mathlib.Core.List.{_∷_, _++_, append-nil}
+use mathlib.Core.Path.{_≡_, refl, sym, _∙_}
 use native.Mathlib.Numerals.{add-one}
 use native.Mathlib.Omega.{arith}
 use borrow.Author.Needs.{needs}
-use denote.Ref.{now}
 use mir.Syntax.{w32}
 use mir.Val.{Fits}
-use lib.ListN.{length, getD, take, drop, length-set}
-use lib.Seq.{slice, slice-cons}
+use lib.ListN.{length, getD, take, drop}
+use lib.Seq.{slice-cons}
 use Rattle.wire.specs.Limits.{maxNumbers}
 use Rattle.wire.specs.Numbers.{listed}
 use Rattle.controller.specs.Keys.{keysOf}
 use Rattle.controller.specs.Laws.Keys.{one-more, slice-none}
 use Rattle.controller.proofs.tally.put_keys.Statement.{statement}
 use Rattle.controller.proofs.tally.put_keys.Tie as tie
-use Rattle.controller.proofs.tally.put_keys.Reads as reads
-use Rattle.controller.proofs.tally.put_keys.Lts as lts
 
 abbrev Inv-loop : tie.InvT-loop
 Inv-loop keys₀ to list len k₀ i₀ keys k i =

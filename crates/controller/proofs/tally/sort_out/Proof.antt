@@ -15,23 +15,15 @@ use Rattle.wire.specs.Limits.{maxNumbers}
 use Rattle.wire.specs.Numbers.{stored, listed}
 use Rattle.wire.specs.declared.frame.Numbers.{Numbers}
 use Rattle.controller.specs.Lists.{mem}
-use Rattle.controller.specs.Keys.{counted, RisingKeys, numbersIn, reaching, newTo, joinedBy, Keeps, Joinable}
+use Rattle.controller.specs.Keys.{RisingKeys, numbersIn, reaching, newTo, joinedBy, Keeps, Joinable}
 use Rattle.controller.specs.Storage.{grown, echoesIn, candidatesIn, Sortable, SortsOut}
 use Rattle.controller.specs.declared.lists.Grown.{Grown}
-use Rattle.controller.specs.declared.tally.Lists.{Lists}
 use Rattle.controller.specs.Laws.Keys.{keep-keys, keep-counted, numbers-length}
 use Rattle.controller.specs.Laws.Lists.{true-or-false}
 use Rattle.controller.specs.Laws.Storage.{grown-test, grown-list}
 use borrow.Author.Needs.{needs}
 use Rattle.controller.proofs.tally.sort_out.Statement.{statement}
 use Rattle.controller.proofs.tally.sort_out.Tie as tie
-use Rattle.controller.proofs.tally.sort_out.Reads as reads
-use Rattle.controller.proofs.tally.sort_out.Lts as lts
-use Rattle.controller.proofs.lists.no_numbers.Reads as no-numbers-reads
-use Rattle.controller.proofs.tally.join.Reads as join-reads
-use Rattle.controller.proofs.tally.keep_new.Reads as keep-new-reads
-use Rattle.controller.proofs.tally.keep_reaching.Reads as keep-reaching-reads
-use Rattle.controller.proofs.tally.numbers_of.Reads as numbers-of-reads
 
 and-true : (x : Bool) → (x && true) ≡ x
 and-true true = refl

@@ -1,18 +1,15 @@
 -- `controller::tally::stands_at` meets its contract: a number is in a rising list exactly if it stands at its place.
-use Prim.Native.Nat.{ℕ, _≤_, _<_}
 use mathlib.Core.Path.{_≡_, sym}
 use native.Mathlib.Omega.{arith}
 use borrow.Author.Needs.{needs}
 use denote.Ref.{now}
-use lib.ListN.{length, getD, take}
+use lib.ListN.{length, take}
 use lib.Seq.{getD-take, length-take-le}
 use Rattle.controller.specs.Laws.Storage.{below-finds, below-misses}
 use borrow.Author.Needs.{needs}
 use borrow.Author.Needs.{needs}
 use Rattle.controller.proofs.tally.stands_at.Statement.{statement}
 use Rattle.controller.proofs.tally.stands_at.Tie as tie
-use Rattle.controller.proofs.tally.stands_at.Reads as reads
-use Rattle.controller.proofs.tally.stands_at.Lts as lts
 
 mul-result : tie.Need-mul-result
 mul-result c = search needs
