@@ -197,15 +197,22 @@ fn numbers_rise(bytes: &[u8], count: usize) -> bool
 {
     let mut last = 0;
     let mut i = 0;
-    while i < count {
-        let x = word(bytes, FRAME_HEADER + NUMBER_WIDTH * i);
-        if x <= last {
+    while i + 2 <= count {
+        let at = FRAME_HEADER + NUMBER_WIDTH * i;
+        let x = word(bytes, at);
+        let y = word(bytes, at + NUMBER_WIDTH);
+        if (last < x) & (x < y) {
+            last = y;
+            i += 2;
+        } else {
             return false;
         }
-        last = x;
-        i += 1;
     }
-    true
+    if i < count {
+        last < word(bytes, FRAME_HEADER + NUMBER_WIDTH * i)
+    } else {
+        true
+    }
 }
 
 fn length_fits(bytes: &[u8]) -> bool
@@ -411,17 +418,16 @@ fn said_fits(said: Said) -> bool
 fn rise(numbers: &[u32]) -> bool
     ensures { λ r. ⌜ r ≡ rising 0 (now (numbers .entry)) ⌝ }
 {
+    let mut ok = true;
     let mut last = 0;
     let mut i = 0;
     while i < numbers.len() {
         let number = numbers[i];
-        if number <= last {
-            return false;
-        }
+        ok = ok & (last < number);
         last = number;
         i += 1;
     }
-    true
+    ok
 }
 
 fn writable(frame: Frame, numbers: &[u32]) -> bool
