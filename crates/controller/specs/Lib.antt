@@ -9,6 +9,7 @@ pub mod Rules
 pub mod Refusals
 pub mod Calls
 pub mod Bytes
+pub mod Keys
 pub mod Storage
 pub mod Trials
 pub mod Examples

@@ -7,27 +7,20 @@
 --     saidUnder o t d b x i    what the frame received under x says, with its first entry i in the tray b, where o is the own number, t the round and d said
 --     saysRead, opinionRead    `says` and `opinionIn` of a frame that was read without its list
 --     CountsBits k v es r      r has how many of those heard sent each bit in a frame of kind k
---     HoldsLists s b rows      row j of rows has the list received under the number heard at place j, in its stored form
---     nextIn rows j i          the number at place i of row j, 0 for none
---     lesser x y               the lesser of two numbers, 0 standing for none
---     placeBehind rows j i x   the place behind i where x is at place i of row j, else i
---     countTo f n              how many of the numbers below n pass the test f
---     LeastNext rows at n x    x is the least of the numbers at the places `at` of the first n rows, 0 where there is none
---     Passes rows at n x r     r has the places behind x in the rows where x is at its place, how many those are, and the least number at the new places
---     withEcho l x c n         l, with x behind it where c of n reach a third
---     withCandidate l x c n    l, with x in it where c of n reach two thirds
---     Addable l s c n          what adding a number to l finds, in the state s before the step
---     echoesWith, candidatesWith l s x c n     the lists of l, with x in those that c of n let it into, unless x was a candidate in s
---     AddsNumber l s x c n r   r has these two, and says whether they fit
+--     Tallies s b k r          the keys k, in the runs r, count each number as the received lists do
+--     echoesIn c n l           of the keys l, counted in n lists, the numbers that reach a third and are not in c
+--     candidatesIn c n l       the numbers c, with those of them that reach two thirds
+--     Sortable a b e w n       what sorting out finds: e rising keys in a with small counts, the candidates w before the step, and room to work in
+--     SortsOut l c n r         r has these two lists, and says whether they fit
 --     GrowsLists s b r         r has the echoes and candidates that making round 3 + 3r gives, and says whether they fit
 --     adoptedFrom v z o h      the own bit, or the only bit whose proposals, z and o of h, reach a third
 --     TurnsBit v es r          r has the bit, strong and said that making round 5 + 3r gives
 --     Checked s b n            what a tray has passed before its senders are looked at: tests 1 to 5
 --     namedState n w r         the state n with the decision and the king that (c) gives in phase r, from the state w before the step
 --     MakesState s b r         r has the state that the step makes, and says whether its lists fit
-use Prim.Native.Nat.{ℕ, _+_, _<_, _≤_, zero, suc}
+use Prim.Native.Nat.{ℕ, _+_, _*_, _<_, _≤_}
 use mathlib.Core.Bool.{true, false, not, cond, _&&_, Bool}
-use mathlib.Core.List.{List, _∷_, _++_, []}
+use mathlib.Core.List.{List, _∷_, _++_}
 use mathlib.Core.Path.{_≡_}
 use lib.Dec.{leb, ltb, eqb}
 use lib.ListN.{length, getD, take, drop}
@@ -39,11 +32,12 @@ use Rattle.wire.specs.Frame.{kindOf, saidBy, kindSaid, bitSaid, readStored}
 use Rattle.wire.specs.declared.frame.Numbers.{Numbers}
 use Rattle.wire.specs.declared.frame.Read.{Read}
 use Rattle.wire.specs.declared.frame.Read.the-variants.{Valid, Void}
-use Rattle.controller.specs.Lists.{In, countIf, mem, insert}
+use Rattle.controller.specs.Lists.{In, countIf}
 use Rattle.controller.specs.State.{View, view, image, sound, undecided, soundList}
-use Rattle.controller.specs.Thirds.{third, twoThirds}
-use Rattle.controller.specs.Received.{senders, heardAfter, readIn, received, says, listIn, count}
-use Rattle.controller.specs.Rotation.{echoed, candidatesAfter}
+use Rattle.controller.specs.Thirds.{third}
+use Rattle.controller.specs.Received.{senders, heardAfter, readIn, says, count}
+use Rattle.controller.specs.Rotation.{tally, echoed, candidatesAfter}
+use Rattle.controller.specs.Keys.{counted, RisingKeys, Keyed, numbersIn, reaching, newTo, joinedBy}
 use Rattle.controller.specs.Bit.{bitAdopted, strongAfter, opinion}
 use Rattle.controller.specs.Rules.{next}
 use Rattle.controller.specs.Refusals.{listsFit}
@@ -51,8 +45,8 @@ use Rattle.controller.specs.declared.state.State.{State}
 use Rattle.controller.specs.declared.lists.Grown.{Grown}
 use Rattle.controller.specs.declared.received.Firsts.{Firsts}
 use Rattle.controller.specs.declared.received.Counts.{Counts}
+use Rattle.controller.specs.declared.keys.Runs.{Runs}
 use Rattle.controller.specs.declared.tally.Lists.{Lists}
-use Rattle.controller.specs.declared.tally.Passed.{Passed}
 use Rattle.controller.specs.declared.bit.Turn.{Turn}
 use Rattle.controller.specs.declared.step.Made.{Made}
 
@@ -93,58 +87,29 @@ pub record CountsBits (k : ℕ) (v : View) (es : List Entry) (r : Counts) : Type
   pub zeros : r .zeros ≡ count (says k 0) v es
   pub ones : r .ones ≡ count (says k 1) v es
 
-abbrev pub HoldsLists : State → List ℕ → List (List ℕ) → Type 0
-HoldsLists s b rows =
-    (j : ℕ) → j < length (heardAfter (view s) (entries b))
-    → getD rows j [] ≡ (stored (listIn (received (view s) (entries b) (getD (heardAfter (view s) (entries b)) j 0)))) .at
+pub record Tallies (s : State) (b k : List ℕ) (r : Runs) : Type 0 where
+  pub keyed : Keyed k r
+  pub counts : (x : ℕ) → counted x (take (r .end) k) ≡ tally (view s) (entries b) x
 
-abbrev pub nextIn : List (List ℕ) → ℕ → ℕ → ℕ
-nextIn rows j i = cond (ltb i maxNumbers) (getD (getD rows j []) i 0) 0
+abbrev pub echoesIn : List ℕ → ℕ → List ℕ → List ℕ
+echoesIn c n l = numbersIn (newTo c (reaching n l))
 
-abbrev pub lesser : ℕ → ℕ → ℕ
-lesser x y = cond (eqb y 0) x (cond (eqb x 0) y (cond (ltb y x) y x))
+abbrev pub candidatesIn : List ℕ → ℕ → List ℕ → List ℕ
+candidatesIn c n l = joinedBy (reaching (2 * n) (newTo c (reaching n l))) c
 
-abbrev pub placeBehind : List (List ℕ) → ℕ → ℕ → ℕ → ℕ
-placeBehind rows j i x = i + cond (eqb (nextIn rows j i) x) 1 0
-
-abbrev pub countTo : (ℕ → Bool) → ℕ → ℕ
-countTo f zero = 0
-countTo f (suc n) = countTo f n + cond (f n) 1 0
-
-pub record LeastNext (rows : List (List ℕ)) (at : List ℕ) (n x : ℕ) : Type 0 where
-  pub there : 0 < x → (j : ℕ) × (j < n) × (nextIn rows j (getD at j 0) ≡ x)
-  pub least : (j : ℕ) → j < n → 0 < nextIn rows j (getD at j 0) → (0 < x) × (x ≤ nextIn rows j (getD at j 0))
-
-pub record Passes (rows : List (List ℕ)) (at : List ℕ) (n x : ℕ) (r : Passed) : Type 0 where
-  pub count : r .count ≡ countTo (λ (j : ℕ). eqb (nextIn rows j (getD at j 0)) x) n
-  pub behind : (j : ℕ) → j < n → getD (r .at) j 0 ≡ placeBehind rows j (getD at j 0) x
-  pub next : LeastNext rows (r .at) n (r .next)
-
-abbrev pub withEcho : List ℕ → ℕ → ℕ → ℕ → List ℕ
-withEcho l x c n = cond (third c n) (l ++ x ∷ []) l
-
-abbrev pub withCandidate : List ℕ → ℕ → ℕ → ℕ → List ℕ
-withCandidate l x c n = cond (twoThirds c n) (insert x l) l
-
-pub record Addable (l : Lists) (s : State) (c n : ℕ) : Type 0 where
-  pub fits : l .fits ≡ true
-  pub echoes : stored (listed (l .echoes)) ≡ l .echoes
-  pub short : l .echoes .len ≤ maxNumbers
-  pub candidates : soundList (l .candidates) ≡ true
-  pub were : soundList (s .candidates) ≡ true
-  pub count : c ≤ maxNumbers
+pub record Sortable (a b : List ℕ) (end : ℕ) (w : Numbers) (n : ℕ) : Type 0 where
+  pub inside : end < length a
+  pub room : maxNumbers + maxNumbers < length a
+  pub same : length b ≡ length a
+  pub rises : RisingKeys (take end a)
+  pub slim : (x : ℕ) → counted x (take end a) ≤ maxNumbers
+  pub were : soundList w ≡ true
   pub lists : n ≤ maxNumbers
 
-abbrev pub echoesWith : Lists → State → ℕ → ℕ → ℕ → List ℕ
-echoesWith l s x c n = cond (mem x (listed (s .candidates))) (listed (l .echoes)) (withEcho (listed (l .echoes)) x c n)
-
-abbrev pub candidatesWith : Lists → State → ℕ → ℕ → ℕ → List ℕ
-candidatesWith l s x c n = cond (mem x (listed (s .candidates))) (listed (l .candidates)) (withCandidate (listed (l .candidates)) x c n)
-
-pub record AddsNumber (l : Lists) (s : State) (x c n : ℕ) (r : Lists) : Type 0 where
-  pub fits : r .fits ≡ (leb (length (echoesWith l s x c n)) maxNumbers && leb (length (candidatesWith l s x c n)) maxNumbers)
-  pub echoes : r .fits ≡ true → r .echoes ≡ stored (echoesWith l s x c n)
-  pub candidates : r .fits ≡ true → r .candidates ≡ stored (candidatesWith l s x c n)
+pub record SortsOut (l c : List ℕ) (n : ℕ) (r : Lists) : Type 0 where
+  pub fits : r .fits ≡ (leb (length (candidatesIn c n l)) maxNumbers && leb (length (echoesIn c n l)) maxNumbers)
+  pub echoes : r .fits ≡ true → r .echoes ≡ stored (echoesIn c n l)
+  pub candidates : r .fits ≡ true → r .candidates ≡ stored (candidatesIn c n l)
 
 pub record GrowsLists (s : State) (b : List ℕ) (r : Lists) : Type 0 where
   pub fits : r .fits ≡ (leb (length (candidatesAfter (view s) (entries b))) maxNumbers && leb (length (echoed (view s) (entries b))) maxNumbers)

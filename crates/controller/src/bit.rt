@@ -14,7 +14,7 @@ use crate::lists::place_of;
 use crate::received::Firsts;
 use crate::received::count_bits;
 use crate::received::read_opinion;
-use crate::received::received_said;
+use crate::received::received;
 use crate::state::State;
 use wire::frame::Numbers;
 
@@ -25,15 +25,8 @@ fn king_opinion(state: State, tray: &[u8], heard: Numbers, firsts: Firsts) -> u8
 {
     let king = state.king;
     if has(heard, king) {
-        let j = place_of(heard, king);
-        let read = received_said(
-            state.own,
-            state.round,
-            state.said,
-            tray,
-            heard.at[j],
-            firsts.at[j],
-        );
+        let frame = received(state, tray, heard, firsts, place_of(heard, king));
+        let read = frame.read;
         read_opinion(read)
     } else {
         2

@@ -1,15 +1,16 @@
 // The two calls: start, and tray, which works a tray of frames or refuses it.
-ghost use mathlib.Core.Bool.{true};
+ghost use mathlib.Core.Bool.{true, cond};
 ghost use mathlib.Core.Path.{_≡_};
 ghost use Prim.Native.Nat.{_≤_, _<_};
+ghost use lib.Dec.{ltb};
 ghost use lib.ListN.{length};
+ghost use Rattle.wire.specs.Frame.{maxCount};
 ghost use Rattle.wire.specs.Limits.{maxFrame, lastRound};
 ghost use Rattle.controller.specs.State.{view, sound, zeroState, image, startView};
 ghost use Rattle.controller.specs.Calls.{Promise, StartPromise, TrayPromise};
 ghost use Rattle.controller.specs.Storage.{Checked};
 use crate::lists::no_numbers;
 use crate::received::heard_with;
-use crate::received::own_frame;
 use crate::received::senders_fit;
 use crate::sound::is_sound;
 use crate::state::Answer;
@@ -17,6 +18,7 @@ use crate::state::State;
 use crate::step::step;
 use wire::frame::Frame;
 use wire::frame::kind_of;
+use wire::frame::max_count;
 use wire::frame::said_by;
 use wire::frame::write_frame;
 use wire::limits::LAST_ROUND;
@@ -73,17 +75,24 @@ fn refused(refusal: u8, state: State) -> Answer
     }
 }
 
+// How many of the echoes are sent: all in a roster and a turn, else none.
+fn sent_count(kind: u8, len: usize) -> usize
+    ensures { λ r. ⌜ r ≡ cond (ltb 0 (maxCount kind)) len 0 ⌝ }
+{
+    if 0 < max_count(kind) { len } else { 0 }
+}
+
 // Writes the frame that is sent with a state.
 fn send(state: State, out: &mut [u8]) -> Answer
     requires { ⌜ (sound state ≡ true) × (maxFrame ≤ length (now out)) ⌝ }
     ensures { λ r. ⌜ Promise 0 (view state) state (now (out .entry)) r (now (out .exit)) ⌝ }
 {
-    let own = own_frame(state);
-    let numbers = own.numbers;
-    let len = numbers.len;
-    let at = numbers.at;
     let round = state.round;
-    let said = said_by(kind_of(round), state.said);
+    let kind = kind_of(round);
+    let said = said_by(kind, state.said);
+    let echoes = state.echoes;
+    let len = sent_count(kind, echoes.len);
+    let at = echoes.at;
     let written = write_frame(Frame { round, said }, &at[0..len], out);
     Answer {
         refusal: 0,
@@ -113,7 +122,7 @@ fn checked_tray(state: State, tray: &[u8], out: &mut [u8]) -> Answer
     requires { ⌜ Checked state (now tray) (length (now out)) ⌝ }
     ensures { λ r. ⌜ TrayPromise state (now (tray .entry)) (now (out .entry)) r (now (out .exit)) ⌝ }
 {
-    if senders_fit(tray, state) {
+    if senders_fit(tray, state.own) {
         let heard = heard_with(tray, state.heard);
         let hears = heard.fits;
         if hears {

@@ -1,6 +1,7 @@
 // One controller's part in a run: its state, and the two calls, start and tray. Bytes are known through the crate wire alone.
 mod bit;
 pub mod calls;
+mod keys;
 mod lists;
 mod received;
 mod rotation;

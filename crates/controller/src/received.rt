@@ -1,5 +1,5 @@
 // What is received in a round: who is heard, and the frame under each heard number.
-ghost use mathlib.Core.Bool.{true, cond};
+ghost use mathlib.Core.Bool.{true, not, cond, _&&_};
 ghost use mathlib.Core.Option.{some};
 ghost use mathlib.Core.Path.{_≡_};
 ghost use Prim.Native.Nat.{ℕ, _<_};
@@ -7,10 +7,9 @@ ghost use lib.ListN.{getD};
 ghost use Rattle.wire.specs.Frame.{readStored};
 ghost use Rattle.wire.specs.Numbers.{listed};
 ghost use Rattle.wire.specs.Tray.{wellFormed, entries, place, bytesAt, firstBytes};
-ghost use Rattle.controller.specs.Lists.{In, insertAll};
+ghost use Rattle.controller.specs.Lists.{In, mem, insertAll};
 ghost use Rattle.controller.specs.State.{view, sound, soundList};
 ghost use Rattle.controller.specs.Received.{senders, readIn, received, frameOf};
-ghost use Rattle.controller.specs.Refusals.{sendersFit};
 ghost use Rattle.controller.specs.Storage.{grown, Ready, saidUnder, saysRead, opinionRead, CountsBits};
 use crate::lists::Grown;
 use crate::lists::has_at;
@@ -42,11 +41,10 @@ pub(crate) struct Firsts {
 }
 
 // Whether no sender in the directory is 0 or the own number.
-pub(crate) fn senders_fit(tray: &[u8], state: State) -> bool
+pub(crate) fn senders_fit(tray: &[u8], own: u32) -> bool
     requires { ⌜ wellFormed (now tray) ≡ true ⌝ }
-    ensures { λ r. ⌜ r ≡ sendersFit (view state) (entries (now (tray .entry))) ⌝ }
+    ensures { λ r. ⌜ r ≡ (not (mem 0 (senders (entries (now (tray .entry))))) && not (mem own (senders (entries (now (tray .entry)))))) ⌝ }
 {
-    let own = state.own;
     let count = entry_count(tray);
     let mut i = 0;
     while i < count {
@@ -176,14 +174,7 @@ fn entry_said(tray: &[u8], entry: usize, round: u32) -> Read
 }
 
 // What the frame received under the number `x` says, if `entry` is its first entry. Numbers and a slice only: no struct is copied for each number.
-pub(crate) fn received_said(
-    own: u32,
-    round: u32,
-    said: u8,
-    tray: &[u8],
-    x: u32,
-    entry: usize,
-) -> Read
+fn received_said(own: u32, round: u32, said: u8, tray: &[u8], x: u32, entry: usize) -> Read
     ensures { λ r. ⌜ r ≡ saidUnder own round said (now (tray .entry)) x entry ⌝ }
 {
     if x == own {

@@ -12,7 +12,7 @@ use crate::lists::no_numbers;
 use crate::lists::push;
 use crate::received::Firsts;
 use crate::received::read_says;
-use crate::received::received_said;
+use crate::received::received;
 use crate::state::State;
 use wire::frame::Numbers;
 
@@ -25,10 +25,10 @@ pub(crate) fn roster(state: State, tray: &[u8], heard: Numbers, firsts: Firsts) 
     let mut list = no_numbers();
     let mut j = 0;
     while j < len {
-        let x = heard.at[j];
-        let read = received_said(state.own, state.round, state.said, tray, x, firsts.at[j]);
+        let frame = received(state, tray, heard, firsts, j);
+        let read = frame.read;
         if read_says(read, 1, 2) {
-            let more = push(list, x);
+            let more = push(list, heard.at[j]);
             list = more.list;
         }
         j += 1;

@@ -21,17 +21,16 @@ fn rises(list: Numbers) -> bool
     ensures { λ r. ⌜ r ≡ rising 0 (listed list) ⌝ }
 {
     let len = list.len;
+    let mut ok = true;
     let mut last = 0;
     let mut i = 0;
     while i < len {
         let x = list.at[i];
-        if x <= last {
-            return false;
-        }
+        ok = ok & (last < x);
         last = x;
         i += 1;
     }
-    true
+    ok
 }
 
 // Whether the unused places are 0, as they are in the stored form.
@@ -39,14 +38,13 @@ fn unused_zero(list: Numbers) -> bool
     requires { ⌜ list .len ≤ maxNumbers ⌝ }
     ensures { λ r. ⌜ r ≡ same (list .at) ((stored (listed list)) .at) ⌝ }
 {
+    let mut ok = true;
     let mut i = list.len;
     while i < MAX_NUMBERS {
-        if list.at[i] != 0 {
-            return false;
-        }
+        ok = ok & (list.at[i] == 0);
         i += 1;
     }
-    true
+    ok
 }
 
 // Whether the unused places are 0 and the numbers rise: the stored form of a list.

@@ -1,18 +1,20 @@
-// The tally of the received lists, and what it makes of echoes and candidates. Each list rises, so that going along all of them together,
-// least number first, meets each number once and with all that have it.
+// The tally of the received lists, and what it makes of echoes and candidates. The lists rise, so that merging them, the counts of equal numbers
+// added, leaves each number once with its count, least number first.
 ghost use mathlib.Core.Bool.{true};
 ghost use mathlib.Core.Path.{_≡_};
-ghost use Prim.Native.Nat.{_≤_, _<_};
-ghost use lib.ListN.{length};
+ghost use Prim.Native.Nat.{_+_, _*_, _≤_, _<_};
+ghost use lib.ListN.{length, take};
 ghost use Rattle.wire.specs.Limits.{maxNumbers};
-ghost use Rattle.wire.specs.Numbers.{listed};
+ghost use Rattle.wire.specs.Numbers.{stored, listed};
+ghost use Rattle.controller.specs.Lists.{mem, Rising};
 ghost use Rattle.controller.specs.State.{soundList};
-ghost use Rattle.controller.specs.Storage.{Ready, GrowsLists, HoldsLists, nextIn, lesser, placeBehind, LeastNext, Passes, withCandidate, Addable, AddsNumber, grown};
+ghost use Rattle.controller.specs.Keys.{RisingKeys, numbersIn, reaching, newTo, joinedBy, PutsKeys, Keeps, Joinable};
+ghost use Rattle.controller.specs.Storage.{below, grown, Ready, Tallies, Sortable, SortsOut, GrowsLists};
+use crate::keys::Runs;
+use crate::keys::merge;
+use crate::keys::merge_all;
 use crate::lists::Grown;
-use crate::lists::has;
-use crate::lists::insert;
 use crate::lists::no_numbers;
-use crate::lists::push;
 use crate::received::Firsts;
 use crate::received::received;
 use crate::state::State;
@@ -26,180 +28,206 @@ pub(crate) struct Lists {
     pub candidates: Numbers,
 }
 
-// How many rows had a number next, how many places of each row are passed with it, and the least number that then stands next, 0 for none.
-struct Passed {
-    count: usize,
-    at: [usize; MAX_NUMBERS],
-    next: u32,
+// Puts the numbers of a list, each counted once, into `keys` from `to` on, and returns the place behind them.
+fn put_keys(list: Numbers, keys: &mut [u64], to: usize) -> usize
+    requires { ⌜ (list .len ≤ maxNumbers) × (to + list .len ≤ length (now keys)) ⌝ }
+    ensures { λ r. ⌜ PutsKeys list (now (keys .entry)) (now (keys .exit)) to r ⌝ }
+{
+    let len = list.len;
+    let mut k = to;
+    let mut i = 0;
+    while i < len {
+        keys[k] = list.at[i] as u64 * 128 + 1;
+        k += 1;
+        i += 1;
+    }
+    k
 }
 
-// Puts the list received under each heard number into its row, unused places 0.
-fn fill(
-    state: State,
-    tray: &[u8],
-    heard: Numbers,
-    firsts: Firsts,
-    rows: &mut [[u32; MAX_NUMBERS]; MAX_NUMBERS],
-)
-    requires { ⌜ Ready state (now tray) heard firsts × (length (now rows) ≡ maxNumbers) ⌝ }
-    ensures { λ r. ⌜ HoldsLists state (now (tray .entry)) (now (rows .exit)) ⌝ }
+// Puts the list received under each heard number into `keys`, one behind the other.
+fn fill(state: State, tray: &[u8], heard: Numbers, firsts: Firsts, keys: &mut [u64]) -> Runs
+    requires { ⌜ Ready state (now tray) heard firsts × (maxNumbers * heard .len < length (now keys)) ⌝ }
+    ensures { λ r. ⌜ Tallies state (now (tray .entry)) (now (keys .exit)) r ⌝ }
 {
     let len = heard.len;
+    let mut at = [0; MAX_NUMBERS];
+    let mut end = 0;
     let mut j = 0;
     while j < len {
         let frame = received(state, tray, heard, firsts, j);
         let numbers = frame.numbers;
-        let at = numbers.at;
-        rows[j] = at;
+        at[j] = numbers.len;
+        end = put_keys(numbers, keys, end);
         j += 1;
     }
+    Runs { len, end, at }
 }
 
-// The number at a place of a row, 0 for none.
-fn next_in(rows: &[[u32; MAX_NUMBERS]; MAX_NUMBERS], j: usize, at: usize) -> u32
-    requires { ⌜ j < maxNumbers ⌝ }
-    ensures { λ r. ⌜ r ≡ nextIn (now (rows .entry)) j at ⌝ }
+// Keeps those of the first `end` keys whose count, three times, reaches `bar`, and returns the place behind them.
+fn keep_reaching(keys: &mut [u64], end: usize, bar: u64) -> usize
+    requires { ⌜ end ≤ length (now keys) ⌝ }
+    ensures { λ r. ⌜ Keeps (reaching bar (take end (now (keys .entry)))) (now (keys .exit)) end r ⌝ }
 {
-    if at < MAX_NUMBERS { rows[j][at] } else { 0 }
+    let mut k = 0;
+    let mut i = 0;
+    while i < end {
+        let key = keys[i];
+        i += 1;
+        if 3 * (key % 128) < bar {
+            continue;
+        }
+        keys[k] = key;
+        k += 1;
+    }
+    k
 }
 
-// The lesser of two numbers, 0 standing for none.
-fn lesser(x: u32, y: u32) -> u32
-    ensures { λ r. ⌜ r ≡ lesser x y ⌝ }
+// The place where `x` stands or belongs in a rising list, searched from a place on that is not behind it.
+fn place_from(list: &[u32], len: usize, from: usize, x: u64) -> usize
+    requires { ⌜ Rising (take len (now list)) × (len ≤ length (now list)) × (from ≤ below x (take len (now list))) ⌝ }
+    ensures { λ r. ⌜ r ≡ below x (take len (now (list .entry))) ⌝ }
 {
-    if y == 0 {
-        x
-    } else if x == 0 {
-        y
-    } else if y < x {
-        y
+    let mut i = from;
+    while i < len {
+        if x <= list[i] as u64 {
+            return i;
+        }
+        i += 1;
+    }
+    i
+}
+
+// Whether `x` stands at its place.
+fn stands_at(list: &[u32], len: usize, at: usize, x: u64) -> bool
+    requires { ⌜ Rising (take len (now list)) × (len ≤ length (now list)) × (at ≡ below x (take len (now list))) ⌝ }
+    ensures { λ r. ⌜ r ≡ mem x (take len (now (list .entry))) ⌝ }
+{
+    if at < len {
+        list[at] as u64 == x
     } else {
-        x
+        false
     }
 }
 
-// The least number that stands next in a row, 0 for none.
-fn least(rows: &[[u32; MAX_NUMBERS]; MAX_NUMBERS], at: [usize; MAX_NUMBERS], len: usize) -> u32
-    requires { ⌜ len ≤ maxNumbers ⌝ }
-    ensures { λ r. ⌜ LeastNext (now (rows .entry)) at len r ⌝ }
+// Keeps those of the first `end` keys whose numbers are not in a list, and returns the place behind them.
+fn keep_new(keys: &mut [u64], end: usize, were: Numbers) -> usize
+    requires { ⌜ (end ≤ length (now keys)) × RisingKeys (take end (now keys)) × (soundList were ≡ true) ⌝ }
+    ensures { λ r. ⌜ Keeps (newTo (listed were) (take end (now (keys .entry)))) (now (keys .exit)) end r ⌝ }
 {
-    let mut x = 0;
-    let mut j = 0;
-    while j < len {
-        x = lesser(x, next_in(rows, j, at[j]));
-        j += 1;
+    let olds = were.at;
+    let mut place = 0;
+    let mut k = 0;
+    let mut i = 0;
+    while i < end {
+        let key = keys[i];
+        i += 1;
+        place = place_from(&olds, were.len, place, key / 128);
+        if stands_at(&olds, were.len, place, key / 128) {
+            continue;
+        }
+        keys[k] = key;
+        k += 1;
     }
-    x
+    k
 }
 
-// The place behind `x` where it stands at a place of a row, else that place.
-fn behind(rows: &[[u32; MAX_NUMBERS]; MAX_NUMBERS], j: usize, at: usize, x: u32) -> usize
-    requires { ⌜ (j < maxNumbers) × (0 < x) ⌝ }
-    ensures { λ r. ⌜ r ≡ placeBehind (now (rows .entry)) j at x ⌝ }
+// The numbers of the first `end` keys.
+fn numbers_of(keys: &[u64], end: usize) -> Numbers
+    requires { ⌜ (end ≤ maxNumbers) × (end ≤ length (now keys)) × RisingKeys (take end (now keys)) ⌝ }
+    ensures { λ r. ⌜ r ≡ stored (numbersIn (take end (now (keys .entry)))) ⌝ }
 {
-    if next_in(rows, j, at) == x {
-        at + 1
-    } else {
-        at
+    let mut at = [0; MAX_NUMBERS];
+    let mut i = 0;
+    while i < end {
+        at[i] = (keys[i] / 128) as u32;
+        i += 1;
     }
+    Numbers { len: end, at }
 }
 
-// Passes `x` in each row where it stands next.
-fn pass(
-    rows: &[[u32; MAX_NUMBERS]; MAX_NUMBERS],
-    at: [usize; MAX_NUMBERS],
-    len: usize,
-    x: u32,
-) -> Passed
-    requires { ⌜ (len ≤ maxNumbers) × (0 < x) ⌝ }
-    ensures { λ r. ⌜ Passes (now (rows .entry)) at len x r ⌝ }
+// The numbers of a list, with those of the first `end` keys. `b` is room to work in.
+fn join(a: &mut [u64], end: usize, list: Numbers, b: &mut [u64]) -> Grown
+    requires { ⌜ Joinable (now a) (now b) end list ⌝ }
+    ensures { λ r. ⌜ r ≡ grown (joinedBy (take end (now (a .entry))) (listed list)) list ⌝ }
 {
-    let mut places = at;
-    let mut count = 0;
-    let mut next = 0;
-    let mut j = 0;
-    while j < len {
-        let place = places[j];
-        let after = behind(rows, j, place, x);
-        places[j] = after;
-        count += after - place;
-        next = lesser(next, next_in(rows, j, after));
-        j += 1;
-    }
-    Passed {
-        count,
-        at: places,
-        next,
-    }
-}
-
-// The candidates, with `x` where its count reaches two thirds.
-fn add_candidate(candidates: Numbers, x: u32, count: usize, len: usize) -> Grown
-    requires { ⌜ (soundList candidates ≡ true) × (count ≤ maxNumbers) × (len ≤ maxNumbers) ⌝ }
-    ensures { λ r. ⌜ r ≡ grown (withCandidate (listed candidates) x count len) candidates ⌝ }
-{
-    if 2 * len <= 3 * count {
-        insert(candidates, x)
-    } else {
+    let next = put_keys(list, a, end);
+    let n = merge(a, 0, end, next, b, 0);
+    if n <= MAX_NUMBERS {
+        let more = numbers_of(b, n);
         Grown {
             fits: true,
-            list: candidates,
+            list: more,
         }
-    }
-}
-
-// What `x`, which `count` of `len` lists have, makes of echoes and candidates. One that was a candidate before the step stays out.
-fn add(lists: Lists, state: State, x: u32, count: usize, len: usize) -> Lists
-    requires { ⌜ Addable lists state count len ⌝ }
-    ensures { λ r. ⌜ AddsNumber lists state x count len r ⌝ }
-{
-    let were = state.candidates;
-    if 3 * count < len {
-        lists
-    } else if has(were, x) {
-        lists
     } else {
-        let echoes = push(lists.echoes, x);
-        let candidates = add_candidate(lists.candidates, x, count, len);
-        let more = echoes.list;
-        let joined = candidates.list;
-        let fits = if echoes.fits { candidates.fits } else { false };
-        Lists {
-            fits,
-            echoes: more,
-            candidates: joined,
-        }
+        Grown { fits: false, list }
     }
 }
 
-// Echoes and candidates after the tray.
+// What the counts in the first `end` keys, of `len` lists, make of echoes and candidates. `b` is room to work in.
+fn sort_out(a: &mut [u64], end: usize, were: Numbers, len: usize, b: &mut [u64]) -> Lists
+    requires { ⌜ Sortable (now a) (now b) end were len ⌝ }
+    ensures { λ r. ⌜ SortsOut (take end (now (a .entry))) (listed were) len r ⌝ }
+{
+    let bar = len as u64;
+    let reached = keep_reaching(a, end, bar);
+    let new = keep_new(a, reached, were);
+    if MAX_NUMBERS < new {
+        return Lists {
+            fits: false,
+            echoes: no_numbers(),
+            candidates: were,
+        };
+    }
+    let echoes = numbers_of(a, new);
+    let joining = keep_reaching(a, new, 2 * bar);
+    let joined = join(a, joining, were, b);
+    let fits = joined.fits;
+    let candidates = joined.list;
+    Lists {
+        fits,
+        echoes,
+        candidates,
+    }
+}
+
+// Echoes and candidates after the tray, with `a` and `b` to work in.
+fn grow_in(
+    state: State,
+    tray: &[u8],
+    heard: Numbers,
+    firsts: Firsts,
+    a: &mut [u64],
+    b: &mut [u64],
+) -> Lists
+    requires { ⌜ Ready state (now tray) heard firsts × (maxNumbers * heard .len < length (now a)) × (maxNumbers + maxNumbers < length (now a)) × (length (now b) ≡ length (now a)) ⌝ }
+    ensures { λ r. ⌜ GrowsLists state (now (tray .entry)) r ⌝ }
+{
+    let runs = fill(state, tray, heard, firsts, a);
+    let end = merge_all(a, b, runs);
+    let were = state.candidates;
+    sort_out(a, end, were, heard.len, b)
+}
+
+// Echoes and candidates after the tray. Few lists need little room, which is quick to clear.
 pub(crate) fn grow(state: State, tray: &[u8], heard: Numbers, firsts: Firsts) -> Lists
     requires { ⌜ Ready state (now tray) heard firsts ⌝ }
     ensures { λ r. ⌜ GrowsLists state (now (tray .entry)) r ⌝ }
 {
-    let mut rows = [[0u32; MAX_NUMBERS]; MAX_NUMBERS];
-    fill(state, tray, heard, firsts, &mut rows);
-    let len = heard.len;
-    let candidates = state.candidates;
-    let mut lists = Lists {
-        fits: true,
-        echoes: no_numbers(),
-        candidates,
-    };
-    let mut at = [0; MAX_NUMBERS];
-    let mut last = 0;
-    let mut x = least(&rows, at, len);
-    while last < x {
-        let passed = pass(&rows, at, len, x);
-        lists = add(lists, state, x, passed.count, len);
-        let fits = lists.fits;
-        if fits {
-            at = passed.at;
-            last = x;
-            x = passed.next;
-        } else {
-            return lists;
-        }
+    if heard.len <= 8 {
+        let mut a = [0u64; 520];
+        let mut b = [0u64; 520];
+        grow_in(state, tray, heard, firsts, &mut a, &mut b)
+    } else if heard.len <= 16 {
+        let mut a = [0u64; 1032];
+        let mut b = [0u64; 1032];
+        grow_in(state, tray, heard, firsts, &mut a, &mut b)
+    } else if heard.len <= 32 {
+        let mut a = [0u64; 2056];
+        let mut b = [0u64; 2056];
+        grow_in(state, tray, heard, firsts, &mut a, &mut b)
+    } else {
+        let mut a = [0u64; 4104];
+        let mut b = [0u64; 4104];
+        grow_in(state, tray, heard, firsts, &mut a, &mut b)
     }
-    lists
 }

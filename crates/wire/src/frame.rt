@@ -4,11 +4,12 @@ ghost use mathlib.Core.Bool.{cond, _&&_};
 ghost use mathlib.Core.List.{[]};
 ghost use mathlib.Core.Option.{some, none};
 ghost use Prim.Native.Nat.{_+_, _*_, _≤_};
+ghost use lib.Dec.{leb};
 ghost use lib.ListN.{length};
 ghost use lib.Seq.{sets};
 ghost use Rattle.wire.specs.Limits.{frameHeader, numberWidth, maxNumbers};
 ghost use Rattle.wire.specs.Numbers.{rising, stored};
-ghost use Rattle.wire.specs.Words.{wordsAt, wordsBytes};
+ghost use Rattle.wire.specs.Words.{wordAt, wordsAt, wordsBytes};
 ghost use Rattle.wire.specs.Frame.{kindOf, chosenBy, saidBy, bitFits, maxCount, countOf, contentOf, readStored, lengthFits, headFits, bodyFits, roundFits, content, FrameReads, bitChosen, kindSaid, bitSaid, chosenFits, saidFits, writable, headerBytes, FrameWrites};
 use crate::limits::BIT_AT;
 use crate::limits::COUNT_AT;
@@ -196,15 +197,22 @@ fn numbers_rise(bytes: &[u8], count: usize) -> bool
 {
     let mut last = 0;
     let mut i = 0;
-    while i < count {
-        let x = word(bytes, FRAME_HEADER + NUMBER_WIDTH * i);
-        if x <= last {
+    while i + 2 <= count {
+        let at = FRAME_HEADER + NUMBER_WIDTH * i;
+        let x = word(bytes, at);
+        let y = word(bytes, at + NUMBER_WIDTH);
+        if (last < x) & (x < y) {
+            last = y;
+            i += 2;
+        } else {
             return false;
         }
-        last = x;
-        i += 1;
     }
-    true
+    if i < count {
+        last < word(bytes, FRAME_HEADER + NUMBER_WIDTH * i)
+    } else {
+        true
+    }
 }
 
 fn length_fits(bytes: &[u8]) -> bool
@@ -327,6 +335,31 @@ pub fn read_said(bytes: &[u8], round: u32) -> Read
     }
 }
 
+// How many numbers bytes list in a round; 0 where they are void.
+pub fn read_count(bytes: &[u8], round: u32) -> usize
+    ensures { λ r. ⌜ r ≡ (readStored (content (now (bytes .entry)) round)) .numbers .len ⌝ }
+{
+    if is_frame(bytes, round) {
+        half(bytes, COUNT_AT)
+    } else {
+        0
+    }
+}
+
+// The number at a place of a frame's list; 0 where the bytes end before it.
+pub fn read_number(bytes: &[u8], i: usize) -> u32
+    ensures { λ r. ⌜ r ≡ cond (leb (frameHeader + numberWidth * (i + 1)) (length (now (bytes .entry)))) (wordAt (now (bytes .entry)) (frameHeader + numberWidth * i)) 0 ⌝ }
+{
+    if bytes.len() < FRAME_HEADER {
+        return 0;
+    }
+    if i < (bytes.len() - FRAME_HEADER) / NUMBER_WIDTH {
+        word(bytes, FRAME_HEADER + NUMBER_WIDTH * i)
+    } else {
+        0
+    }
+}
+
 fn bit_chosen(choice: Choice) -> u8
     ensures { λ r. ⌜ r ≡ bitChosen choice ⌝ }
 {
@@ -385,17 +418,16 @@ fn said_fits(said: Said) -> bool
 fn rise(numbers: &[u32]) -> bool
     ensures { λ r. ⌜ r ≡ rising 0 (now (numbers .entry)) ⌝ }
 {
+    let mut ok = true;
     let mut last = 0;
     let mut i = 0;
     while i < numbers.len() {
         let number = numbers[i];
-        if number <= last {
-            return false;
-        }
+        ok = ok & (last < number);
         last = number;
         i += 1;
     }
-    true
+    ok
 }
 
 fn writable(frame: Frame, numbers: &[u32]) -> bool

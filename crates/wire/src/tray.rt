@@ -171,3 +171,14 @@ pub fn part_said(tray: &[u8], offset: usize, len: usize, round: u32) -> Read
         read_said(&tray[0..0], round)
     }
 }
+
+// The `len` bytes from `offset` on; no bytes where they run past the tray's end.
+pub fn part_of<'a>(tray: &'a [u8], offset: usize, len: usize) -> &'a [u8]
+    ensures { λ r. ⌜ now r ≡ part (now (tray .entry)) offset len ⌝ }
+{
+    if lies_in(tray, offset, len) {
+        &tray[offset..offset + len]
+    } else {
+        &tray[0..0]
+    }
+}

@@ -16,10 +16,10 @@ use Rattle.wire.specs.Tray.{entries, firstBytes}
 use Rattle.wire.specs.declared.frame.Numbers.{Numbers}
 use Rattle.wire.specs.declared.frame.Read.the-variants.{Valid}
 use Rattle.wire.specs.declared.frame.Read.{Read}
-use Rattle.controller.specs.Laws.Received.{read-says-is, read-opinion-is}
-use Rattle.controller.specs.Received.{heardAfter, readIn, received, frameOf, says, opinionIn}
+use Rattle.controller.specs.Laws.Received.{read-says-is}
+use Rattle.controller.specs.Received.{heardAfter, readIn, received, frameOf, says}
 use Rattle.controller.specs.State.{view}
-use Rattle.controller.specs.Storage.{Ready, saidUnder, saysRead, opinionRead}
+use Rattle.controller.specs.Storage.{Ready, saidUnder, saysRead}
 use Rattle.controller.specs.declared.received.Firsts.{Firsts}
 use Rattle.controller.specs.declared.state.State.{State}
 
@@ -53,7 +53,3 @@ module _ {s : State} {b : List ℕ} {n : Numbers} {f : Firsts} (ready : Ready s 
   pub ready-says : (j k bit : ℕ) (r : Read) → j < n .len → r ≡ saidUnder (s .own) (s .round) (s .said) b (getD (n .at) j 0) (getD (f .at) j 0)
       → saysRead k bit r ≡ says k bit (received (view s) (entries b) (getD (listed n) j 0))
   ready-says j k bit r h e = rw (e, ready-said j h) (read-says-is (received (view s) (entries b) (getD (listed n) j 0)) k bit)
-
-  pub ready-opinion : (j : ℕ) (r : Read) → j < n .len → r ≡ saidUnder (s .own) (s .round) (s .said) b (getD (n .at) j 0) (getD (f .at) j 0)
-      → opinionRead r ≡ opinionIn (received (view s) (entries b) (getD (listed n) j 0))
-  ready-opinion j r h e = rw (e, ready-said j h) (read-opinion-is (received (view s) (entries b) (getD (listed n) j 0)))

@@ -15,6 +15,7 @@ use Rattle.wire.specs.Laws.Frame.{kind-range, said-kind, said-bit, said-allowed
 use Rattle.wire.specs.Limits.{maxNumbers, lastRound}
 use Rattle.wire.specs.Numbers.{rising}
 use Rattle.wire.specs.Tray.{Entry, entryCount, sender, entriesFrom, entries, firstBytes}
+use Rattle.wire.specs.declared.frame.FrameRead.{FrameRead}
 use Rattle.controller.specs.Lists.{In, Rising}
 use Rattle.controller.specs.State.{View}
 use Rattle.controller.specs.Received.{frameOf, senders, heardAfter, readIn, received, says, opinionIn, listIn}
@@ -78,9 +79,15 @@ pub read-says-is : (o : Option Content) (k b : ℕ) → saysRead k b ((readStore
 read-says-is none k b = refl
 read-says-is (some c) k b = refl
 
-pub read-opinion-is : (o : Option Content) → opinionRead ((readStored o) .read) ≡ opinionIn o
+read-opinion-is : (o : Option Content) → opinionRead ((readStored o) .read) ≡ opinionIn o
 read-opinion-is none = refl
 read-opinion-is (some c) = refl
+
+pub stored-says : (r : FrameRead) (o : Option Content) (k b : ℕ) → r ≡ readStored o → saysRead k b (r .read) ≡ says k b o
+stored-says r o k b e = rw e (read-says-is o k b)
+
+pub stored-opinion : (r : FrameRead) (o : Option Content) → r ≡ readStored o → opinionRead (r .read) ≡ opinionIn o
+stored-opinion r o e = rw e (read-opinion-is o)
 
 -- ---- the frame of a sound state
 
@@ -130,9 +137,6 @@ frame-reads v h = reads-written (frameOf v) (frame-writable v h)
 -- what the frame of a sound state says
 pub frame-says : (v : View) → Sound v → (k b : ℕ) → says k b (some (frameOf v)) ≡ (eqb (kindOf (v .round)) k && eqb (v .said) b)
 frame-says v h k b = rw (frame-kind v, frame-bit v h)
-
-pub frame-opinion : (v : View) → Sound v → opinionIn (some (frameOf v)) ≡ cond (eqb (kindOf (v .round)) 5) (v .said) 2
-frame-opinion v h = rw (frame-kind v, frame-bit v h)
 
 pub frame-list : (v : View) → listIn (some (frameOf v)) ≡ cond (ltb 0 (maxCount (kindOf (v .round)))) (v .echoes) []
 unfolding frameOf

@@ -50,6 +50,16 @@ below-length x l = omega (arith, count-split (λ y. ltb y x) l)
 pub below-misses : (x : ℕ) (l : List ℕ) → length l ≤ below x l → mem x l ≡ false
 below-misses x l h = out-mem l (λ i. absurd (omega (arith, count-short (λ y. ltb y x) x i (le-ltb x x (omega arith)))))
 
+-- a greater number's place is not before it
+pub below-more : (x y : ℕ) (l : List ℕ) → x ≤ y → below x l ≤ below y l
+below-more x y [] h = omega arith
+below-more x y (z ∷ l) h =
+    let rest = below-more x y l h in
+    elim (true-or-false (ltb z x)) [
+      | inl t ↦ rw (t, lt-ltb z y (omega (arith, ltb-true z x t))) (omega arith)
+      | inr t ↦ elim (true-or-false (ltb z y)) [ inl u ↦ rw (t, u) (omega arith) | inr u ↦ rw (t, u) rest ]
+    ]
+
 -- ---- a number put in at its place
 
 pub insert-place : (x : ℕ) (l : List ℕ) → Rising l → (¬ In x l) → insertedAt (below x l) x l ≡ insert x l
@@ -143,10 +153,6 @@ opened-stored n i x at e h k p =
 pub grown-fits : (l : List ℕ) (n m : Numbers) → length l ≤ maxNumbers → m ≡ stored l → _≡_ {A = Grown} (record { fits = true; list = m }) (grown l n)
 unfolding grown
 grown-fits l n m h e = rw (e, le-leb (length l) maxNumbers h)
-
--- a list that stays as it is
-pub grown-same : (n : Numbers) → stored (listed n) ≡ n → length (listed n) ≤ maxNumbers → _≡_ {A = Grown} (record { fits = true; list = n }) (grown (listed n) n)
-grown-same n back short = grown-fits (listed n) n n short (sym back)
 
 pub grown-full : (l : List ℕ) (n : Numbers) → maxNumbers < length l → _≡_ {A = Grown} (record { fits = false; list = n }) (grown l n)
 unfolding grown

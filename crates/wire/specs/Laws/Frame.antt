@@ -37,6 +37,12 @@ pub length-fits : (s : List ℕ) → lengthFits s ≡ true → length s ≡ fram
 unfolding lengthFits
 length-fits s h = eqb-true _ _ (and-eq-true-iff (leb frameHeader (length s)) _ .0 h .1)
 
+-- bytes that pass the reader's tests have a header
+pub frame-header : (s : List ℕ) (t : ℕ) → (lengthFits s && headFits s t && bodyFits s t) ≡ true → frameHeader ≤ length s
+frame-header s t h =
+    let e = and-eq-true-iff (lengthFits s && headFits s t) (bodyFits s t) .0 h in
+    omega (arith, length-fits s (and-eq-true-iff (lengthFits s) (headFits s t) .0 (e .0) .0))
+
 -- ---- reading
 
 -- the three tests of the reader as one, for its number and for its content

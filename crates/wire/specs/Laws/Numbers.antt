@@ -1,21 +1,25 @@
 -- Laws of lists of controller numbers and of their stored form.
 use Prim.Native.Nat.{ℕ, zero, suc, _+_, _-_, _≤_, _<_}
-use mathlib.Core.Bool.{false, _&&_}
+use mathlib.Core.Bool.{Bool, false, _&&_, and-assoc, and-true}
 use mathlib.Core.List.{List, _∷_}
 use mathlib.Core.Path.{_≡_, refl, sym, _∙_}
 use native.Mathlib.Nat.{zero-add, sub-zero, zero-sub, suc-sub-suc}
 use native.Mathlib.Numerals.{add-one}
 use borrow.Author.Tests.{lt-ltb, le-ltb}
 use lib.Dec.{ltb}
-use lib.ListN.{length, getD, drop, replicate, length-replicate}
+use lib.ListN.{length, getD, drop, replicate, length-replicate, drop-of-length-le}
 use lib.Seq.{drop-cons, sets, sets-eq, take-at}
 use Rattle.wire.specs.Limits.{maxNumbers}
 use Rattle.wire.specs.declared.frame.Numbers.{Numbers}
 use Rattle.wire.specs.Numbers.{rising, stored, listed}
 
--- one step along a list, as a loop over it takes it
-pub rising-drop : (x : ℕ) (l : List ℕ) (i : ℕ) → i < length l → rising x (drop i l) ≡ (ltb x (getD l i 0) && rising (getD l i 0) (drop (i + 1) l))
-rising-drop x l i h = rw (add-one, drop-cons l i 0)
+-- one turn of a loop along a list that keeps whether the numbers passed rose, and its end
+module _ (ok : Bool) (x : ℕ) (l : List ℕ) (i : ℕ) where
+  pub rising-turn : i < length l → (ok && ltb x (getD l i 0) && rising (getD l i 0) (drop (i + 1) l)) ≡ (ok && rising x (drop i l))
+  rising-turn h = rw (add-one, drop-cons l i 0) (and-assoc ok (ltb x (getD l i 0)) (rising (getD l i 0) (drop (suc i) l)))
+
+  pub rising-end : length l ≤ i → (ok && rising x (drop i l)) ≡ ok
+  rising-end h = rw (drop-of-length-le l {i = i} h) (and-true ok)
 
 pub rising-stops : (x y : ℕ) (l : List ℕ) → y ≤ x → rising x (y ∷ l) ≡ false
 rising-stops x y l h = rw (le-ltb x y h)

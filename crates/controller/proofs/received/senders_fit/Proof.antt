@@ -58,13 +58,13 @@ returns : tie.Need-returns Inv-loop μ-loop
 returns c =
     let v = c .before .before .before .loop in
     let a = c .before .before .before .before .before .before .args in
-    nobody (now (a .tray)) (a .state .own) (c .before .before .before .before .entry-count .result) (v .i) _ (c .before .before .loop-test .taken) (c .before .entry-sender .ensures) (c .if1 .taken) ∙ v .inv .1
+    nobody (now (a .tray)) (a .own) (c .before .before .before .before .entry-count .result) (v .i) _ (c .before .before .loop-test .taken) (c .before .entry-sender .ensures) (c .if1 .taken) ∙ v .inv .1
 
 returns-2 : tie.Need-returns-2 Inv-loop μ-loop
 returns-2 c =
     let v = c .before .before .before .before .loop in
     let a = c .before .before .before .before .before .before .before .args in
-    oneself (now (a .tray)) (a .state .own) (c .before .before .before .before .before .entry-count .result) (v .i) _ (c .before .before .before .loop-test .taken) (c .before .before .entry-sender .ensures) (c .if2 .taken) ∙ v .inv .1
+    oneself (now (a .tray)) (a .own) (c .before .before .before .before .before .entry-count .result) (v .i) _ (c .before .before .before .loop-test .taken) (c .before .before .entry-sender .ensures) (c .if2 .taken) ∙ v .inv .1
 
 add-i : tie.Need-add-i Inv-loop μ-loop
 add-i c = search needs
@@ -76,13 +76,13 @@ loop-again : tie.Need-loop-again Inv-loop μ-loop
 loop-again c =
     let v = c .before .before .before .before .loop in
     let a = c .before .before .before .before .before .before .before .args in
-    (search needs, another (now (a .tray)) (a .state .own) (c .before .before .before .before .before .entry-count .result) (v .i) _ (c .before .before .before .loop-test .taken) (c .before .before .entry-sender .ensures) (c .before .if1 .left) (c .if2 .left) ∙ v .inv .1)
+    (search needs, another (now (a .tray)) (a .own) (c .before .before .before .before .before .entry-count .result) (v .i) _ (c .before .before .before .loop-test .taken) (c .before .before .entry-sender .ensures) (c .before .if1 .left) (c .if2 .left) ∙ v .inv .1)
 
 returns-3 : tie.Need-returns-3 Inv-loop μ-loop
 returns-3 c =
     let v = c .before .loop in
     let a = c .before .before .before .before .args in
-    done (now (a .tray)) (a .state .own) (c .before .before .entry-count .result) (v .i) (c .loop-test .left) ∙ v .inv .1
+    done (now (a .tray)) (a .own) (c .before .before .entry-count .result) (v .i) (c .loop-test .left) ∙ v .inv .1
 
 pub senders-fit-spec : {M : Type 1} → statement M
 senders-fit-spec =

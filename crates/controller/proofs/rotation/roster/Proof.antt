@@ -12,7 +12,8 @@ use lib.ListN.{length, getD, take, length-take, length-append}
 use lib.Seq.{take-suc, take-all, getD-take}
 use Rattle.controller.specs.Laws.Storage.{grown-fits}
 use Rattle.controller.specs.Laws.Lists.{keep-append, keep-length}
-use Rattle.controller.specs.Laws.Ready.{ready-listed, ready-used, ready-few, ready-says}
+use Rattle.controller.specs.Laws.Ready.{ready-listed, ready-used, ready-few}
+use Rattle.controller.specs.Laws.Received.{stored-says}
 use Rattle.controller.specs.Lists.{keep}
 use Rattle.controller.specs.Received.{received, says}
 use Rattle.controller.specs.Rotation.{roster}
@@ -54,10 +55,10 @@ module _ (n : Numbers) (l : List ℕ) (e : n ≡ stored l) where
       ap (λ (r : Grown). r .list) (rw same at d ∙ sym (grown-fits (l ++ x ∷ []) n (stored (l ++ x ∷ [])) fits refl))
 
 abbrev Inv-loop : tie.InvT-loop
-Inv-loop state tray heard firsts len list₀ j₀ list j = (j ≤ len) × (list ≡ stored (keep (sent-init state tray) (take j (listed heard))))
+Inv-loop state tray firsts heard len list₀ j₀ list j = (j ≤ len) × (list ≡ stored (keep (sent-init state tray) (take j (listed heard))))
 
 abbrev μ-loop : tie.MeasureT-loop
-μ-loop state tray heard firsts len list₀ j₀ list j = len - j
+μ-loop state tray firsts heard len list₀ j₀ list j = len - j
 
 no-numbers-requires : tie.Need-no-numbers-requires Inv-loop μ-loop
 no-numbers-requires c κs = search needs
@@ -65,36 +66,26 @@ no-numbers-requires c κs = search needs
 loop-holds : tie.Need-loop-holds Inv-loop μ-loop
 loop-holds c = (search needs, c .no-numbers .ensures)
 
--- a place of the list is one of 64
-inside : (c : tie.In-loop Inv-loop μ-loop) → c .before .loop .j < 64
-inside c = omega (arith, c .loop-test .taken, ready-few (c .before .before .before .before .pre))
-
-mul-x : tie.Need-mul-x Inv-loop μ-loop
-mul-x c = omega (arith, inside c)
-
-element-copy-out-x : tie.Need-element-copy-out-x Inv-loop μ-loop
-element-copy-out-x c = omega (arith, inside c)
-
-mul-received-said : tie.Need-mul-received-said Inv-loop μ-loop
-mul-received-said c = omega (arith, inside (c .before))
-
-element-copy-out-received-said : tie.Need-element-copy-out-received-said Inv-loop μ-loop
-element-copy-out-received-said c = omega (arith, inside (c .before))
-
-received-said-requires : tie.Need-received-said-requires Inv-loop μ-loop
-received-said-requires c κs = search needs
+received-requires : tie.Need-received-requires Inv-loop μ-loop
+received-requires c κs = (c .before .before .before .before .pre, c .loop-test .taken)
 
 read-says-requires : tie.Need-read-says-requires Inv-loop μ-loop
 read-says-requires c κs = search needs
 
+mul-push : tie.Need-mul-push Inv-loop μ-loop
+mul-push c = omega (arith, c .before .before .before .loop-test .taken, ready-few (c .before .before .before .before .before .before .before .pre))
+
+element-copy-out-push : tie.Need-element-copy-out-push Inv-loop μ-loop
+element-copy-out-push c = omega (arith, c .before .before .before .loop-test .taken, ready-few (c .before .before .before .before .before .before .before .pre))
+
 push-requires : tie.Need-push-requires Inv-loop μ-loop
 push-requires c κs =
-    let a = c .before .before .before .before .before .before .before .before .before .args in
-    let v = c .before .before .before .before .before .before .loop in
+    let a = c .before .before .before .before .before .before .before .before .args in
+    let v = c .before .before .before .before .before .loop in
     let l = keep (sent-init (a .state) (now (a .tray))) (take (v .j) (listed (a .t3))) in
     let same : v .list .len ≡ length l = ap (λ (m : Numbers). m .len) (v .inv .1) in
     let most = bound (sent-init (a .state) (now (a .tray))) (listed (a .t3)) (v .j) in
-    (stays (v .list) l (v .inv .1), omega (arith, v .inv .0, ready-few (c .before .before .before .before .before .before .before .before .before .pre)))
+    (stays (v .list) l (v .inv .1), omega (arith, v .inv .0, ready-few (c .before .before .before .before .before .before .before .before .pre)))
 
 add-j : tie.Need-add-j Inv-loop μ-loop
 add-j c = search needs
@@ -104,21 +95,21 @@ loop-less c = search needs
 
 loop-again : tie.Need-loop-again Inv-loop μ-loop
 loop-again c =
-    let a = c .before .before .before .before .before .before .before .before .before .args in
-    let pre = c .before .before .before .before .before .before .before .before .before .pre in
-    let v = c .before .before .before .before .before .before .loop in
-    let taken = c .before .before .before .before .before .loop-test .taken in
+    let a = c .before .before .before .before .before .before .before .args in
+    let v = c .before .before .before .before .loop in
     let l = listed (a .t3) in
     let x = getD (a .t3 .at) (v .j) 0 in
     let f = sent-init (a .state) (now (a .tray)) in
-    let h : v .j < length l = omega (arith, taken, ready-used pre) in
-    let room : length (keep f (take (v .j) l)) < maxNumbers = omega (arith, bound f l (v .j), taken, ready-few pre) in
-    let asked : f (getD l (v .j) 0) ≡ c .before .read-says .result = sym (ready-says pre (v .j) 1 2 _ taken (c .before .before .received-said .ensures)) ∙ sym (c .before .read-says .ensures) in (
+    let h : v .j < length l = omega (arith, c .before .before .before .loop-test .taken, ready-used (c .before .before .before .before .before .before .before .pre)) in
+    let room : length (keep f (take (v .j) l)) < maxNumbers = omega (arith, bound f l (v .j), c .before .before .before .loop-test .taken, ready-few (c .before .before .before .before .before .before .before .pre)) in
+    let o = received (view (a .state)) (entries (now (a .tray))) (getD l (v .j) 0) in
+    let asked : f (getD l (v .j) 0) ≡ c .before .read-says .result =
+    sym (stored-says (c .before .before .received .result) o 1 2 (c .before .before .received .ensures)) ∙ sym (c .before .read-says .ensures) in (
       search needs,
       elim (c .if1 .came) [
         | inl p ↦
-            let put = pushed (v .list) (keep f (take (v .j) l)) (v .inv .1) x (p .1 .result) room (p .1 .ensures) in
-            p .3 ∙ put ∙ ap stored (sym (rw (getD-take (a .t3 .len) (a .t3 .at) (v .j) 0 taken) at (passes f l (v .j) h (asked ∙ p .0 .taken))))
+            let put = pushed (v .list) (keep f (take (v .j) l)) (v .inv .1) x (p .2 .result) room (p .2 .ensures) in
+            p .4 ∙ put ∙ ap stored (sym (rw (getD-take (a .t3 .len) (a .t3 .at) (v .j) 0 (c .before .before .before .loop-test .taken)) at (passes f l (v .j) h (asked ∙ p .0 .taken))))
         | inr p ↦ p .1 ∙ v .inv .1 ∙ ap stored (sym (fails f l (v .j) h (asked ∙ p .0 .left)))
       ],
     )
@@ -139,12 +130,10 @@ roster-spec =
     μ-loop
     no-numbers-requires
     loop-holds
-    mul-x
-    element-copy-out-x
-    mul-received-said
-    element-copy-out-received-said
-    received-said-requires
+    received-requires
     read-says-requires
+    mul-push
+    element-copy-out-push
     push-requires
     add-j
     loop-less

@@ -1,0 +1,69 @@
+-- `controller::keys::merge_all` meets its contract: each turn leaves fewer runs, which count as before; one run, or none, rises.
+use Prim.Native.Nat.{ℕ}
+use mathlib.Core.Path.{_≡_, refl, _∙_}
+use native.Mathlib.Omega.{arith}
+use borrow.Author.Needs.{needs}
+use lib.ListN.{length, take, length-take}
+use Rattle.controller.specs.Keys.{counted, Keyed}
+use Rattle.controller.specs.Laws.Keys.{cut-one}
+use Rattle.controller.proofs.keys.merge_all.Statement.{statement}
+use Rattle.controller.proofs.keys.merge_all.Tie as tie
+
+abbrev Inv-loop : tie.InvT-loop
+Inv-loop a₀ b₀ r₀ len₀ a b r len =
+    (len ≡ r .len) × (length a ≡ length a₀) × (length b ≡ length b₀) × Keyed a r × ((x : ℕ) → counted x (take (r .end) a) ≡ counted x (take (r₀ .end) a₀))
+
+abbrev μ-loop : tie.MeasureT-loop
+μ-loop a₀ b₀ r₀ len₀ a b r len = len
+
+loop-holds : tie.Need-loop-holds Inv-loop μ-loop
+loop-holds c = (refl, refl, refl, c .before .before .pre .0, λ x. refl)
+
+halve-requires : tie.Need-halve-requires Inv-loop μ-loop
+halve-requires c κs = (c .before .before .before .loop .inv .3, search needs)
+
+halve-requires-2 : tie.Need-halve-requires-2 Inv-loop μ-loop
+halve-requires-2 c κs = (c .before .before .before .before .halve .ensures .keyed, search needs)
+
+loop-less : tie.Need-loop-less Inv-loop μ-loop
+loop-less c =
+    let v = c .before .before .before .before .before .before .before .before .before .before .before .loop in
+    omega (arith, c .before .before .before .before .before .before .before .before .before .before .loop-test .taken, v .inv .0, c .before .before .before .before .before .before .before .halve .ensures .half, c .before .before .halve2 .ensures .half)
+
+loop-again : tie.Need-loop-again Inv-loop μ-loop
+loop-again c =
+    let v = c .before .before .before .before .before .before .before .before .before .before .before .loop in
+    let one = c .before .before .before .before .before .before .before .halve .ensures in
+    let two = c .before .before .halve2 .ensures in
+    (refl, search needs, search needs, two .keyed, λ x. two .counts x ∙ one .counts x ∙ v .inv .4 x)
+
+same-length : tie.Need-same-length Inv-loop μ-loop
+same-length c = search needs
+
+same-length-2 : tie.Need-same-length-2 Inv-loop μ-loop
+same-length-2 c = search needs
+
+returns : tie.Need-returns Inv-loop μ-loop
+returns c =
+    let v = c .before .loop in
+    let k = v .inv .3 in
+    record {
+      inside = k .inside;
+      rises = cut-one (take (v .r .len) (v .r .at)) (take (v .r .end) (v .a)) (omega (arith, c .loop-test .left, v .inv .0, length-take (v .r .len) (v .r .at))) (k .cut);
+      counts = v .inv .4;
+    }
+
+pub merge-all-spec : {M : Type 1} → statement M
+merge-all-spec =
+    tie.close
+    (tie.spec
+    Inv-loop
+    μ-loop
+    loop-holds
+    halve-requires
+    halve-requires-2
+    loop-less
+    loop-again
+    same-length
+    same-length-2
+    returns)
