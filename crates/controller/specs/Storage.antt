@@ -16,6 +16,7 @@
 --     adoptedFrom v z o h      the own bit, or the only bit whose proposals, z and o of h, reach a third
 --     TurnsBit v es r          r has the bit, strong and said that making round 5 + 3r gives
 --     Checked s b n            what a tray has passed before its senders are looked at: tests 1 to 5
+--     Heeded s b n l           what it has passed before the step: tests 1 to 7, with those heard after it as l
 --     namedState n w r         the state n with the decision and the king that (c) gives in phase r, from the state w before the step
 --     MakesState s b r         r has the state that the step makes, and says whether its lists fit
 use Prim.Native.Nat.{ℕ, _+_, _*_, _<_, _≤_}
@@ -40,7 +41,7 @@ use Rattle.controller.specs.Rotation.{tally, echoed, candidatesAfter}
 use Rattle.controller.specs.Keys.{counted, RisingKeys, Keyed, numbersIn, reaching, newTo, joinedBy}
 use Rattle.controller.specs.Bit.{bitAdopted, strongAfter, opinion}
 use Rattle.controller.specs.Rules.{next}
-use Rattle.controller.specs.Refusals.{listsFit}
+use Rattle.controller.specs.Refusals.{sendersFit, heardFit, listsFit}
 use Rattle.controller.specs.declared.state.State.{State}
 use Rattle.controller.specs.declared.lists.Grown.{Grown}
 use Rattle.controller.specs.declared.received.Firsts.{Firsts}
@@ -137,6 +138,12 @@ pub record Checked (s : State) (b : List ℕ) (n : ℕ) : Type 0 where
   pub room : maxFrame ≤ n
   pub packed : wellFormed b ≡ true
   pub round : roundOf b ≡ s .round
+
+pub record Heeded (s : State) (b : List ℕ) (n : ℕ) (l : Numbers) : Type 0 where
+  pub checked : Checked s b n
+  pub senders : sendersFit (view s) (entries b) ≡ true
+  pub few : heardFit (view s) (entries b) ≡ true
+  pub heard : l ≡ stored (heardAfter (view s) (entries b))
 
 unfoldable pub namedState : State → State → ℕ → State
 namedState n w r =

@@ -8,7 +8,7 @@ ghost use Rattle.wire.specs.Frame.{maxCount};
 ghost use Rattle.wire.specs.Limits.{maxFrame, lastRound};
 ghost use Rattle.controller.specs.State.{view, sound, zeroState, image, startView};
 ghost use Rattle.controller.specs.Calls.{Promise, StartPromise, TrayPromise};
-ghost use Rattle.controller.specs.Storage.{Checked};
+ghost use Rattle.controller.specs.Storage.{Checked, Heeded};
 use crate::lists::no_numbers;
 use crate::received::heard_with;
 use crate::received::senders_fit;
@@ -17,6 +17,7 @@ use crate::state::Answer;
 use crate::state::State;
 use crate::step::step;
 use wire::frame::Frame;
+use wire::frame::Numbers;
 use wire::frame::kind_of;
 use wire::frame::max_count;
 use wire::frame::said_by;
@@ -117,7 +118,22 @@ pub fn start(number: u32, bit: u8, out: &mut [u8]) -> Answer
     send(first_state(number, bit), out)
 }
 
-// Tests 6, 7 and 8, then the step.
+// The step, with those heard after the tray, and test 8.
+fn heard_tray(state: State, tray: &[u8], heard: Numbers, out: &mut [u8]) -> Answer
+    requires { ⌜ Heeded state (now tray) (length (now out)) heard ⌝ }
+    ensures { λ r. ⌜ TrayPromise state (now (tray .entry)) (now (out .entry)) r (now (out .exit)) ⌝ }
+{
+    let made = step(state, tray, heard);
+    let fits = made.fits;
+    if fits {
+        let next = made.state;
+        send(next, out)
+    } else {
+        refused(8, state)
+    }
+}
+
+// Tests 6 and 7.
 fn checked_tray(state: State, tray: &[u8], out: &mut [u8]) -> Answer
     requires { ⌜ Checked state (now tray) (length (now out)) ⌝ }
     ensures { λ r. ⌜ TrayPromise state (now (tray .entry)) (now (out .entry)) r (now (out .exit)) ⌝ }
@@ -127,14 +143,7 @@ fn checked_tray(state: State, tray: &[u8], out: &mut [u8]) -> Answer
         let hears = heard.fits;
         if hears {
             let list = heard.list;
-            let made = step(state, tray, list);
-            let fits = made.fits;
-            if fits {
-                let next = made.state;
-                send(next, out)
-            } else {
-                refused(8, state)
-            }
+            heard_tray(state, tray, list, out)
         } else {
             refused(7, state)
         }

@@ -15,7 +15,7 @@ use wire::frame::kind_of;
 use wire::frame::round_fits;
 use wire::limits::MAX_NUMBERS;
 
-// Whether the numbers in the used places rise strictly from above 0.
+// Whether the numbers in the used places rise strictly from above 0. A loop with no way out is compiled to tests of four numbers at once.
 fn rises(list: Numbers) -> bool
     requires { ⌜ list .len ≤ maxNumbers ⌝ }
     ensures { λ r. ⌜ r ≡ rising 0 (listed list) ⌝ }

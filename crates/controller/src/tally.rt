@@ -163,14 +163,31 @@ fn join(a: &mut [u64], end: usize, list: Numbers, b: &mut [u64]) -> Grown
     }
 }
 
+// Keeps those of the first `end` keys that reach `bar` and whose numbers are not in a list, and returns the place behind them.
+fn keep_new_reaching(keys: &mut [u64], end: usize, were: Numbers, bar: u64) -> usize
+    requires { ⌜ (end ≤ length (now keys)) × RisingKeys (take end (now keys)) × (soundList were ≡ true) ⌝ }
+    ensures { λ r. ⌜ Keeps (newTo (listed were) (reaching bar (take end (now (keys .entry))))) (now (keys .exit)) end r ⌝ }
+{
+    let reached = keep_reaching(keys, end, bar);
+    keep_new(keys, reached, were)
+}
+
+// The numbers of a list, with those of the first `end` keys that reach `bar`. `b` is room to work in.
+fn join_reaching(a: &mut [u64], end: usize, list: Numbers, bar: u64, b: &mut [u64]) -> Grown
+    requires { ⌜ Joinable (now a) (now b) end list ⌝ }
+    ensures { λ r. ⌜ r ≡ grown (joinedBy (reaching bar (take end (now (a .entry)))) (listed list)) list ⌝ }
+{
+    let joining = keep_reaching(a, end, bar);
+    join(a, joining, list, b)
+}
+
 // What the counts in the first `end` keys, of `len` lists, make of echoes and candidates. `b` is room to work in.
 fn sort_out(a: &mut [u64], end: usize, were: Numbers, len: usize, b: &mut [u64]) -> Lists
     requires { ⌜ Sortable (now a) (now b) end were len ⌝ }
     ensures { λ r. ⌜ SortsOut (take end (now (a .entry))) (listed were) len r ⌝ }
 {
     let bar = len as u64;
-    let reached = keep_reaching(a, end, bar);
-    let new = keep_new(a, reached, were);
+    let new = keep_new_reaching(a, end, were, bar);
     if MAX_NUMBERS < new {
         return Lists {
             fits: false,
@@ -179,8 +196,7 @@ fn sort_out(a: &mut [u64], end: usize, were: Numbers, len: usize, b: &mut [u64])
         };
     }
     let echoes = numbers_of(a, new);
-    let joining = keep_reaching(a, new, 2 * bar);
-    let joined = join(a, joining, were, b);
+    let joined = join_reaching(a, new, were, 2 * bar, b);
     let fits = joined.fits;
     let candidates = joined.list;
     Lists {
