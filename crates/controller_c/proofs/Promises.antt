@@ -34,8 +34,8 @@ module _ (k : ℕ) (v : View) (s : State) (before : List ℕ) (a : Answer) (afte
         number = h .number ∙ p .number ∙ sym e;
         image = rw e (h .image ∙ laid-out b);
         output = rw e (p .output);
-        length = rw e (h .length ∙ p .written);
+        written = rw e (h .written ∙ p .written);
       }
 
 pub promise-refused : (n : ℕ) (v : View) (b before : List ℕ) (r l : ℕ) → n ≡ 1 → (r ≡ 1) × (l ≡ 0) → ImagePromise n v b before r b before l
-promise-refused n v b before r l e h = record { number = h .0 ∙ sym e; image = rw e; output = rw e; length = rw e (h .1) }
+promise-refused n v b before r l e h = record { number = h .0 ∙ sym e; image = rw e; output = rw e; written = rw e (h .1) }

@@ -33,7 +33,7 @@ pub record ImagePromise (refusal : ℕ) (made : View) (imageBefore outBefore : L
   pub number : r ≡ refusal
   pub image : imageAfter ≡ cond (eqb refusal 0) (laidOut (image made)) imageBefore
   pub output : outAfter ≡ cond (eqb refusal 0) (sentBytes made ++ drop (length (sentBytes made)) outBefore) outBefore
-  pub length : lengthAfter ≡ cond (eqb refusal 0) (length (sentBytes made)) 0
+  pub written : lengthAfter ≡ cond (eqb refusal 0) (length (sentBytes made)) 0
 
 -- controller_start(number, bit, image, out, length), with image and output before the call, the answer, and all three after it
 abbrev pub StartImagePromise : ℕ → ℕ → List ℕ → List ℕ → ℕ → List ℕ → List ℕ → ℕ → Type 0
@@ -74,4 +74,4 @@ pub record HandsOver (a : Answer) (n : ℕ) : Type 0 where
 pub record HandedOver (a : Answer) (imageBefore : List ℕ) (r : ℕ) (imageAfter : List ℕ) (lengthAfter : ℕ) : Type 0 where
   pub number : r ≡ a .refusal
   pub image : imageAfter ≡ cond (eqb (a .refusal) 0) (laidOut (a .state)) imageBefore
-  pub length : lengthAfter ≡ a .length
+  pub written : lengthAfter ≡ a .length

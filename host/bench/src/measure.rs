@@ -53,13 +53,14 @@ fn ratios(times: &[f64], others: &[f64]) -> Vec<f64> {
     times.iter().zip(others).map(|(a, b)| a / b).collect()
 }
 
-/// One pass over the bytes, a word at a time.
+/// One pass over the bytes, one word at a time: `black_box` keeps the compiler from
+/// taking several words in one instruction.
 fn sum(bytes: &[u8]) -> u64 {
     let mut words = bytes.chunks_exact(8);
     let mut sum: u64 = 0;
     for word in &mut words {
-        let word = word.try_into().expect("8 bytes");
-        sum = sum.wrapping_add(u64::from_ne_bytes(word));
+        let word = u64::from_ne_bytes(word.try_into().expect("8 bytes"));
+        sum = sum.wrapping_add(black_box(word));
     }
     let rest = words.remainder().iter().map(|&byte| u64::from(byte));
     sum.wrapping_add(rest.sum())

@@ -36,11 +36,7 @@ fn run_sizes(sizes: RangeInclusive<usize>, runs: u64) {
     for size in sizes.clone() {
         let most = (size - 1) / 3;
         for _ in 0..runs {
-            let faulty = if seed.is_multiple_of(4) {
-                most / 2
-            } else {
-                most
-            };
+            let faulty = if seed % 4 == 0 { most / 2 } else { most };
             let seen = run::<Engine>(size, faulty, seed)
                 .unwrap_or_else(|e| panic!("{size} with {faulty} faulty, seed {seed}: {e}"));
             all.push(seen);

@@ -13,10 +13,10 @@ same-length c = search needs
 returns : tie.Need-returns
 returns c =
     let t = c .before .before .before .before .before .if1 .taken in
-    record { number = search needs; image = rw (eq-eqb _ _ t) (c .before .before .lay-out .ensures); length = search needs }
+    record { number = search needs; image = rw (eq-eqb _ _ t) (c .before .before .lay-out .ensures); written = search needs }
 
 returns-2 : tie.Need-returns-2
-returns-2 c = record { number = search needs; image = rw (ne-eqb _ _ (c .if1 .left)); length = search needs }
+returns-2 c = record { number = search needs; image = rw (ne-eqb _ _ (c .if1 .left)); written = search needs }
 
 pub hand-over-spec : {M : Type 1} → statement M
 hand-over-spec = tie.close (tie.spec lay-out-requires same-length returns returns-2)
