@@ -6,20 +6,28 @@ ghost use Prim.Native.Nat.{_+_, _*_, _≤_, _<_};
 ghost use lib.ListN.{length, take};
 ghost use Rattle.wire.specs.Limits.{maxNumbers};
 ghost use Rattle.wire.specs.Numbers.{stored, listed};
+ghost use Rattle.wire.specs.Frame.{content};
+ghost use Rattle.wire.specs.Tray.{place, bytesAt};
 ghost use Rattle.controller.specs.Lists.{mem, Rising};
-ghost use Rattle.controller.specs.State.{soundList};
+ghost use Rattle.controller.specs.State.{sound, soundList};
+ghost use Rattle.controller.specs.Received.{readIn, listIn};
 ghost use Rattle.controller.specs.Keys.{RisingKeys, numbersIn, reaching, newTo, joinedBy, PutsKeys, Keeps, Joinable};
-ghost use Rattle.controller.specs.Storage.{below, grown, Ready, Tallies, Sortable, SortsOut, GrowsLists};
+ghost use Rattle.controller.specs.Storage.{below, grown, Ready, contentUnder, Tallies, Sortable, SortsOut, GrowsLists};
 use crate::keys::Runs;
 use crate::keys::merge;
 use crate::keys::merge_all;
 use crate::lists::Grown;
 use crate::lists::no_numbers;
 use crate::received::Firsts;
-use crate::received::received;
+use crate::received::own_frame;
 use crate::state::State;
 use wire::frame::Numbers;
+use wire::frame::read_count;
+use wire::frame::read_number;
 use wire::limits::MAX_NUMBERS;
+use wire::tray::Found;
+use wire::tray::entry_place;
+use wire::tray::part_of;
 
 // Echoes and candidates after a step; `fits` is false where one of them would have more than 64 numbers.
 pub(crate) struct Lists {
@@ -31,7 +39,7 @@ pub(crate) struct Lists {
 // Puts the numbers of a list, each counted once, into `keys` from `to` on, and returns the place behind them.
 fn put_keys(list: Numbers, keys: &mut [u64], to: usize) -> usize
     requires { ⌜ (list .len ≤ maxNumbers) × (to + list .len ≤ length (now keys)) ⌝ }
-    ensures { λ r. ⌜ PutsKeys list (now (keys .entry)) (now (keys .exit)) to r ⌝ }
+    ensures { λ r. ⌜ PutsKeys (listed list) (now (keys .entry)) (now (keys .exit)) to r ⌝ }
 {
     let len = list.len;
     let mut k = to;
@@ -44,6 +52,57 @@ fn put_keys(list: Numbers, keys: &mut [u64], to: usize) -> usize
     k
 }
 
+// Puts the numbers that bytes list in a round into `keys` as `put_keys` does, from where they lie; none where the bytes are void.
+fn put_part(bytes: &[u8], round: u32, keys: &mut [u64], to: usize) -> usize
+    requires { ⌜ to + length (listIn (content (now bytes) round)) ≤ length (now keys) ⌝ }
+    ensures { λ r. ⌜ PutsKeys (listIn (content (now (bytes .entry)) round)) (now (keys .entry)) (now (keys .exit)) to r ⌝ }
+{
+    let len = read_count(bytes, round);
+    let mut k = to;
+    let mut i = 0;
+    while i < len {
+        let x = read_number(bytes, i);
+        keys[k] = x as u64 * 128 + 1;
+        k += 1;
+        i += 1;
+    }
+    k
+}
+
+// Puts the list of an entry's frame into `keys`; none where there is no such entry.
+fn put_entry(tray: &[u8], entry: usize, round: u32, keys: &mut [u64], to: usize) -> usize
+    requires { ⌜ to + length (listIn (readIn round (bytesAt (now tray) (place (now tray) entry)))) ≤ length (now keys) ⌝ }
+    ensures { λ r. ⌜ PutsKeys (listIn (readIn round (bytesAt (now (tray .entry)) (place (now (tray .entry)) entry)))) (now (keys .entry)) (now (keys .exit)) to r ⌝ }
+{
+    let found = entry_place(tray, entry);
+    match found {
+        Found::At(offset, len) => put_part(part_of(tray, offset, len), round, keys, to),
+        Found::Nothing => to,
+    }
+}
+
+// Puts the list received under the number `x` into `keys`, if `entry` is its first entry.
+fn put_received(
+    state: State,
+    tray: &[u8],
+    x: u32,
+    entry: usize,
+    keys: &mut [u64],
+    to: usize,
+) -> usize
+    requires { ⌜ (sound state ≡ true) × (to + length (listIn (contentUnder state (now tray) x entry)) ≤ length (now keys)) ⌝ }
+    ensures { λ r. ⌜ PutsKeys (listIn (contentUnder state (now (tray .entry)) x entry)) (now (keys .entry)) (now (keys .exit)) to r ⌝ }
+{
+    let own = state.own;
+    if x == own {
+        let frame = own_frame(state);
+        let numbers = frame.numbers;
+        put_keys(numbers, keys, to)
+    } else {
+        put_entry(tray, entry, state.round, keys, to)
+    }
+}
+
 // Puts the list received under each heard number into `keys`, one behind the other.
 fn fill(state: State, tray: &[u8], heard: Numbers, firsts: Firsts, keys: &mut [u64]) -> Runs
     requires { ⌜ Ready state (now tray) heard firsts × (maxNumbers * heard .len < length (now keys)) ⌝ }
@@ -54,10 +113,9 @@ fn fill(state: State, tray: &[u8], heard: Numbers, firsts: Firsts, keys: &mut [u
     let mut end = 0;
     let mut j = 0;
     while j < len {
-        let frame = received(state, tray, heard, firsts, j);
-        let numbers = frame.numbers;
-        at[j] = numbers.len;
-        end = put_keys(numbers, keys, end);
+        let next = put_received(state, tray, heard.at[j], firsts.at[j], keys, end);
+        at[j] = next - end;
+        end = next;
         j += 1;
     }
     Runs { len, end, at }

@@ -1,33 +1,32 @@
 -- Laws of the work on the tally: the received lists as keys count each number as `tally` does, and the lists that such keys give are the rules'.
-use Prim.Native.Nat.{ℕ, _+_, _*_, _-_, _/_, _%_, _≤_, _<_}
+use Prim.Native.Nat.{ℕ, zero, suc, _+_, _*_, _-_, _/_, _%_, _≤_, _<_}
 use mathlib.Core.Bool.{true, not}
-use mathlib.Core.List.{List, [], _++_, List·Memᴰ·not-nil, Memᴰ·cast}
+use mathlib.Core.List.{List, [], _∷_, List·Memᴰ·head, List·Memᴰ·tail, List·Memᴰ·not-nil, Memᴰ·cast}
 use mathlib.Core.Logic.{_⊎_, inl, inr}
 use mathlib.Core.Option.{Option, some, none}
 use mathlib.Core.Path.{_≡_, refl, sym, ap, _∙_}
 use native.Mathlib.Numerals.{add-one}
 use native.Mathlib.Omega.{arith}
-use borrow.Author.Tests.{leb-true, le-leb, le-ltb, not-true}
-use lib.Dec.{leb, ltb}
-use lib.ListN.{length, getD, set, take, drop, replicate, length-set, drop-of-length-le, List·getD-append}
+use borrow.Author.Tests.{leb-true, le-leb, not-true}
+use lib.Dec.{leb}
+use lib.ListN.{length, getD, set, take, drop, replicate, length-set, drop-of-length-le}
 use lib.Seq.{drop-cons, take-suc-set}
 use Rattle.wire.specs.Frame.{Content, writable}
 use Rattle.wire.specs.Laws.Frame.{writable-gives, writable-count}
-use Rattle.wire.specs.Laws.Numbers.{listed-stored}
 use Rattle.wire.specs.Limits.{maxNumbers}
 use Rattle.wire.specs.Numbers.{stored, listed}
 use Rattle.wire.specs.Tray.{Entry, entries}
-use Rattle.wire.specs.declared.frame.Numbers.{Numbers}
-use Rattle.controller.specs.Lists.{In, mem, countIf, Rising}
+use Rattle.wire.specs.Words.{Below}
+use Rattle.controller.specs.Lists.{In, mem, countIf}
 use Rattle.controller.specs.Keys.{counted, RisingKeys, merged, Slim, Cut, OneRun, keysOf, numbersIn, reaching, newTo, PutsKeys}
 use Rattle.controller.specs.State.{View, view, sound, soundList}
 use Rattle.controller.specs.Received.{heardAfter, received, listIn}
 use Rattle.controller.specs.Rotation.{tally, echoed, candidatesAfter}
 use Rattle.controller.specs.Storage.{Tallies, echoesIn, candidatesIn, SortsOut, GrowsLists}
 use Rattle.controller.specs.Laws.Keys.{counted-append, merged-counts, merged-every, merged-rises, cut-more, keys-length, keys-every, keys-rise, keys-counted, numbers-in, numbers-from, numbers-rise, key-count, counted-some, keep-keys, keep-counted}
-use Rattle.controller.specs.Laws.Lists.{true-or-false, in-mem, out-mem, mem-out, in-or-not, rising-gives, rising-same, rising-place, count-length, count-short, keep-in}
+use Rattle.controller.specs.Laws.Lists.{true-or-false, in-mem, out-mem, mem-out, in-or-not, rising-gives, rising-same, count-length, keep-in}
 use Rattle.controller.specs.Laws.Thirds.{third-is, two-thirds-is}
-use Rattle.controller.specs.Laws.State.{SoundList, Sound, sound-list-gives, sound-list-test, sound-gives, sound-stored}
+use Rattle.controller.specs.Laws.State.{SoundList, Sound, sound-list-test, sound-gives, sound-stored}
 use Rattle.controller.specs.Laws.Received.{heard-some, received-allowed}
 use Rattle.controller.specs.Laws.Rotation.{echoed-in, echoed-rising, candidates-in, candidates-rising}
 use Rattle.controller.specs.declared.keys.Runs.{Runs}
@@ -48,15 +47,17 @@ list-sound (some c) allowed =
 pub list-at-sound : (v : View) (es : List Entry) → Sound v → (j : ℕ) → SoundList (listAt v es j)
 list-at-sound v es h j = list-sound (received v es (getD (heardAfter v es) j 0)) (received-allowed v es h (getD (heardAfter v es) j 0))
 
--- the numbers of a stored list fit where its places do
-pub listed-small : (l : List ℕ) (n : Numbers) → n ≡ stored l → Rising l → ((i : ℕ) → i < n .len → getD (n .at) i 0 < 4294967296) → (x : ℕ) → In x l → x < 4294967296
-listed-small l n e up small x i =
-    let at = countIf (λ (y : ℕ). ltb y x) l in
-    let h : at < length l = count-short (λ (y : ℕ). ltb y x) x i (le-ltb x x (omega arith)) in
-    let size : n .len ≡ length l = ap (λ (m : Numbers). m .len) e in
-    let here : getD (n .at) at 0 ≡ x =
-    ap (λ (m : Numbers). getD (m .at) at 0) e ∙ List·getD-append l (replicate (maxNumbers - length l) 0) 0 at h ∙ rising-place x l up i in
-    omega (arith, small at (omega arith), here)
+-- a bound on the places is one on the numbers, and on those of the first places
+pub below-in : {k : ℕ} (l : List ℕ) → Below k l → (x : ℕ) → In x l → x < k
+below-in [] small x i = absurd (List·Memᴰ·not-nil i)
+below-in (y ∷ l) small x (List·Memᴰ·head e) = omega (arith, small 0, e)
+below-in (y ∷ l) small x (List·Memᴰ·tail i) = below-in l (λ j. small (suc j)) x i
+
+pub below-take : {k : ℕ} (n : ℕ) (l : List ℕ) → Below k l → Below k (take n l)
+below-take zero l small i = omega (arith, small (length l))
+below-take (suc n) [] small i = small i
+below-take (suc n) (y ∷ l) small zero = small 0
+below-take (suc n) (y ∷ l) small (suc i) = below-take n l (λ j. small (suc j)) i
 
 -- ---- the lists put in, one by one
 
@@ -71,36 +72,32 @@ pub filling-start : (v : View) (es : List Entry) (keys : List ℕ) → Filling v
 unfolding tally
 filling-start v es keys = record { place = omega arith; size = refl; cut = refl; counts = λ x. omega arith }
 
-module _ (v : View) (es : List Entry) (keys at : List ℕ) (end j : ℕ) (n : Numbers) (f : List ℕ) (r : ℕ)
+module _ (v : View) (es : List Entry) (keys at : List ℕ) (end j : ℕ) (f : List ℕ) (r : ℕ)
     (h : Sound v)
     (lt : j < length (heardAfter v es))
     (few : length (heardAfter v es) ≤ maxNumbers)
     (g : Filling v es keys at end j)
-    (is : n ≡ stored (listAt v es j))
-    (puts : PutsKeys n keys f end r)
+    (puts : PutsKeys (listAt v es j) keys f end r)
   where
-    written : take r f ≡ take end keys ++ keysOf (listAt v es j)
-    written = puts .kept ∙ rw (is, listed-stored (listAt v es j))
+    used : r - end ≡ length (keysOf (listAt v es j))
+    used = omega (arith, puts .place, keys-length (listAt v es j))
 
-    used : n .len ≡ length (keysOf (listAt v es j))
-    used = ap (λ (m : Numbers). m .len) is ∙ sym (keys-length (listAt v es j))
-
-    pub filling-more : Filling v es f (set at j (n .len)) r (j + 1)
+    pub filling-more : Filling v es f (set at j (r - end)) r (j + 1)
     filling-more =
         let l = listAt v es j in
         let sound = list-at-sound v es h j in
-        let rises : RisingKeys (keysOf l) = keys-rise l (sound .rises) (listed-small l n is (sound .rises) (puts .small)) in
+        let rises : RisingKeys (keysOf l) = keys-rise l (sound .rises) (below-in l (puts .small)) in
         record {
-          place = omega (arith, puts .place, g .place, used, keys-length l, sound .short);
+          place = omega (arith, puts .place, g .place, sound .short);
           size = simp length-set (g .size);
           cut =
-              rw (add-one, take-suc-set at j (n .len) (omega (arith, g .size)), written, used)
+              rw (add-one, take-suc-set at j (r - end) (omega (arith, g .size)), puts .kept, used)
               (cut-more (take j at) (take end keys) (keysOf l) (g .cut) rises);
           counts =
               λ x.
               let before = rw (drop-cons (heardAfter v es) j 0 lt) at (g .counts x) in
               let here = keys-counted x l (sound .rises) in
-              rw (written, counted-append x (take end keys) (keysOf l), add-one)
+              rw (puts .kept, counted-append x (take end keys) (keysOf l), add-one)
               (elim (true-or-false (mem x l)) [ inl t ↦ omega (arith, rw t at here, rw t at before) | inr t ↦ omega (arith, rw t at here, rw t at before) ]);
         }
 
@@ -267,12 +264,11 @@ module _ (v : View) (es : List Entry) (l : List ℕ)
 
 -- what is sorted out of the one run is what the rules give
 pub sorted-grows : (s : State) (b : List ℕ) {k f : List ℕ} {runs : Runs} {end n : ℕ} {r : Lists} → sound s ≡ true
-    → n ≡ length (heardAfter (view s) (entries b)) → n ≤ maxNumbers → ((i : ℕ) → i < s .candidates .len → getD (s .candidates .at) i 0 < 4294967296)
+    → n ≡ length (heardAfter (view s) (entries b)) → n ≤ maxNumbers → Below 4294967296 (s .candidates .at)
     → Tallies s b k runs → OneRun k runs f end → SortsOut (take end f) (listed (s .candidates)) n r → GrowsLists s b r
 sorted-grows s b {k} {f} {runs} {end} {n} {r} test size few fit all one sorts =
     let h = sound-gives s test in
-    let t = sound-list-gives (s .candidates) (candidates-tests s test) in
-    let small = listed-small (listed (s .candidates)) (s .candidates) (sym (t .back)) (t .list .rises) fit in
+    let small = below-in (listed (s .candidates)) (below-take (s .candidates .len) (s .candidates .at) fit) in
     let counts : (x : ℕ) → counted x (take end f) ≡ tally (view s) (entries b) x = λ x. one .counts x ∙ all .counts x in
     let echoes = rw (← size) at (sorted-echoes (view s) (entries b) (take end f) h (omega arith) small (one .rises) counts) in
     let candidates = rw (← size) at (sorted-candidates (view s) (entries b) (take end f) h (omega arith) small (one .rises) counts) in

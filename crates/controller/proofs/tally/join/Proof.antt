@@ -16,7 +16,7 @@ use Rattle.controller.specs.Laws.Keys.{merged-rises, keys-rise, keys-cou
 use Rattle.controller.specs.Laws.Lists.{true-or-false}
 use Rattle.controller.specs.Laws.State.{ListTests, sound-list-gives}
 use Rattle.controller.specs.Laws.Storage.{grown-fits, grown-full}
-use Rattle.controller.specs.Laws.Tally.{listed-small}
+use Rattle.controller.specs.Laws.Tally.{below-in}
 use borrow.Author.Needs.{needs}
 use Rattle.controller.proofs.tally.join.Statement.{statement}
 use Rattle.controller.proofs.tally.join.Tie as tie
@@ -24,7 +24,7 @@ use Rattle.controller.proofs.tally.join.Tie as tie
 module _ (a b : List ℕ) (end : ℕ) (n : Numbers) (f : List ℕ) (next : ℕ)
     (pre : Joinable a b end n)
     (same : length f ≡ length a)
-    (puts : PutsKeys n a f end next)
+    (puts : PutsKeys (listed n) a f end next)
   where
     tests : ListTests n
     tests = sound-list-gives n (pre .list)
@@ -64,7 +64,7 @@ module _ (a b : List ℕ) (end : ℕ) (n : Numbers) (f : List ℕ) (next : ℕ)
       rises =
           rw all
           (merged-rises (take end a) (keysOf (listed n)) slim (pre .rises)
-          (keys-rise (listed n) (tests .list .rises) (listed-small (listed n) n (sym (tests .back)) (tests .list .rises) (puts .small))))
+          (keys-rise (listed n) (tests .list .rises) (below-in (listed n) (puts .small))))
 
       inside : length d ≡ length b → r ≤ length d
       inside e = omega (arith, merges .short, mergeable .inside, pre .same)
