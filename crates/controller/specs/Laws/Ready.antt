@@ -1,10 +1,12 @@
 -- Laws of what a step finds: those heard, as a stored list, and the first entry of each of them.
-use Prim.Native.Nat.{ℕ, _≤_, _<_}
+use Prim.Native.Nat.{ℕ, _+_, _≤_, _<_}
 use mathlib.Core.Bool.{Bool, true, false, cond}
 use mathlib.Core.List.{List}
 use mathlib.Core.Option.{some}
 use mathlib.Core.Path.{_≡_, refl, sym, ap, _∙_}
+use native.Mathlib.Decide.{ℕ-discrete}
 use native.Mathlib.Omega.{arith}
+use borrow.Author.Tests.{ne-eqb}
 use lib.Dec.{eqb}
 use lib.ListN.{length, getD}
 use lib.Seq.{getD-take}
@@ -20,7 +22,7 @@ use Rattle.controller.specs.Laws.Received.{read-says-is}
 use Rattle.controller.specs.Laws.Tally.{listAt}
 use Rattle.controller.specs.Received.{heardAfter, readIn, received, frameOf, says, listIn}
 use Rattle.controller.specs.State.{view}
-use Rattle.controller.specs.Storage.{Ready, contentUnder, saidUnder, saysRead}
+use Rattle.controller.specs.Storage.{Ready, contentUnder, Alike, saidUnder, saysRead}
 use Rattle.controller.specs.declared.received.Firsts.{Firsts}
 use Rattle.controller.specs.declared.state.State.{State}
 
@@ -57,6 +59,17 @@ module _ {s : State} {b : List ℕ} {n : Numbers} {f : Firsts} (ready : Ready s 
 
   pub ready-list : (j : ℕ) → j < n .len → listIn (contentUnder s b (getD (n .at) j 0) (getD (f .at) j 0)) ≡ listAt (view s) (entries b) j
   ready-list j h = ap listIn (ready-content j h) ∙ rw ready-listed
+
+  -- equal bytes under equal numbers, or others than the own one, are equal lists
+  pub ready-alike : (j r : ℕ) → Alike (s .own) b n f j r → (i : ℕ) → j ≤ i → i < j + r → listAt (view s) (entries b) i ≡ listAt (view s) (entries b) j
+  ready-alike j r a i l u = elim (ℕ-discrete i j) [
+    | yes e ↦ rw e
+    | no d ↦
+        let t = a .same i (omega arith) u in
+        let content : contentUnder s b (getD (n .at) i 0) (getD (f .at) i 0) ≡ contentUnder s b (getD (n .at) j 0) (getD (f .at) j 0) =
+        rw (ne-eqb (getD (n .at) i 0) (s .own) (t .1), ne-eqb (getD (n .at) j 0) (s .own) (t .0), t .2) in
+        sym (ready-list i (omega (arith, a .inside))) ∙ ap listIn content ∙ ready-list j (omega (arith, a .inside))
+  ]
 
   pub ready-says : (j k bit : ℕ) (r : Read) → j < n .len → r ≡ saidUnder (s .own) (s .round) (s .said) b (getD (n .at) j 0) (getD (f .at) j 0)
       → saysRead k bit r ≡ says k bit (received (view s) (entries b) (getD (listed n) j 0))

@@ -7,7 +7,7 @@ use denote.Ref.{now}
 use lib.ListN.{length, getD}
 use Rattle.wire.specs.Limits.{maxNumbers}
 use Rattle.wire.specs.Tray.{entries}
-use Rattle.controller.specs.Laws.Ready.{ready-size, ready-few, ready-list}
+use Rattle.controller.specs.Laws.Ready.{ready-size, ready-few, ready-list, ready-alike}
 use Rattle.controller.specs.Laws.State.{sound-gives}
 use Rattle.controller.specs.Laws.Tally.{listAt, list-at-sound, Filling, filling-start, filling-more, filling-end}
 use Rattle.controller.specs.Received.{listIn}
@@ -17,17 +17,18 @@ use Rattle.controller.proofs.tally.fill.Statement.{statement}
 use Rattle.controller.proofs.tally.fill.Tie as tie
 
 abbrev Inv-loop : tie.InvT-loop
-Inv-loop state tray keys₀ heard firsts len at₀ end₀ j₀ keys at end j = (j ≤ len) × (length keys ≡ length keys₀) × Filling (view state) (entries tray) keys at end j
+Inv-loop state tray keys₀ heard firsts len at₀ runs₀ end₀ j₀ keys at runs end j =
+    (j ≤ len) × (length keys ≡ length keys₀) × Filling (view state) (entries tray) keys at end runs j
 
 abbrev μ-loop : tie.MeasureT-loop
-μ-loop state tray keys₀ heard firsts len at₀ end₀ j₀ keys at end j = len - j
+μ-loop state tray keys₀ heard firsts len at₀ runs₀ end₀ j₀ keys at runs end j = len - j
 
--- the call, the turn, and the test that let it in
+-- the call, and the count of a turn
 abbrev outside : tie.At-loop Inv-loop μ-loop → tie.Start Inv-loop μ-loop
 outside c = c .before .before .before
 
-abbrev inside : tie.After-slice-known2 Inv-loop μ-loop → tie.In-loop Inv-loop μ-loop
-inside c = c .before .before .before .before .before .before
+abbrev counted : tie.After-slice-known2 Inv-loop μ-loop → tie.After-alike Inv-loop μ-loop
+counted c = c .before .before .before .before .before .before
 
 place-fits : (c : tie.In-loop Inv-loop μ-loop) → c .before .loop .j < maxNumbers
 place-fits c = omega (arith, c .loop-test .taken, ready-few (outside (c .before) .pre .0))
@@ -42,52 +43,63 @@ list-is c = ready-list (outside (c .before) .pre .0) (c .before .loop .j) (c .lo
 loop-holds : tie.Need-loop-holds Inv-loop μ-loop
 loop-holds c = (search needs, refl, filling-start _ _ _)
 
+alike-requires : tie.Need-alike-requires Inv-loop μ-loop
+alike-requires c κs = (ready-few (outside (c .before) .pre .0), c .loop-test .taken)
+
 mul-put-received : tie.Need-mul-put-received Inv-loop μ-loop
-mul-put-received c = omega (arith, place-fits c)
+mul-put-received c = omega (arith, place-fits (c .before))
 
 element-copy-out-put-received : tie.Need-element-copy-out-put-received Inv-loop μ-loop
-element-copy-out-put-received c = omega (arith, place-fits c)
+element-copy-out-put-received c = omega (arith, place-fits (c .before))
 
 mul-put-received-2 : tie.Need-mul-put-received-2 Inv-loop μ-loop
-mul-put-received-2 c = omega (arith, place-fits (c .before))
+mul-put-received-2 c = omega (arith, place-fits (c .before .before))
 
 element-copy-out-put-received-2 : tie.Need-element-copy-out-put-received-2 Inv-loop μ-loop
-element-copy-out-put-received-2 c = omega (arith, place-fits (c .before))
+element-copy-out-put-received-2 c = omega (arith, place-fits (c .before .before))
 
 put-received-requires : tie.Need-put-received-requires Inv-loop μ-loop
 put-received-requires c κs =
-    let turn = c .before .before .before in
+    let alike = c .before .before .before .alike .ensures in
+    let turn = c .before .before .before .before in
     let v = turn .before .loop in
     let a = outside (turn .before) .args in
     let pre = outside (turn .before) .pre in
-    let few = list-at-sound (view (a .state)) (entries (now (a .tray))) (sound-gives (a .state) (pre .0 .sound)) (v .j) .short in
-    (pre .0 .sound, omega (arith, ap length (list-is turn), few, v .inv .2 .place, v .inv .1, pre .1, turn .loop-test .taken))
+    let short = list-at-sound (view (a .state)) (entries (now (a .tray))) (sound-gives (a .state) (pre .0 .sound)) (v .j) .short in (
+      pre .0 .sound,
+      omega (arith, alike .inside, ready-few (pre .0)),
+      omega (arith, ap length (list-is turn), short, v .inv .2 .place, v .inv .2 .few, v .inv .1, pre .1, turn .loop-test .taken),
+    )
 
 sub-at : tie.Need-sub-at Inv-loop μ-loop
 sub-at c = omega (arith, c .before .before .put-received .ensures .place)
 
 mul-at : tie.Need-mul-at Inv-loop μ-loop
-mul-at c = omega (arith, place-fits (inside c))
+mul-at c = omega (arith, place-fits (counted c .before), counted c .before .before .loop .inv .2 .few)
 
 array-write-at : tie.Need-array-write-at Inv-loop μ-loop
-array-write-at c = omega (arith, place-fits (inside c))
+array-write-at c = omega (arith, place-fits (counted c .before), counted c .before .before .loop .inv .2 .few)
+
+add-runs : tie.Need-add-runs Inv-loop μ-loop
+add-runs c = omega (arith, place-fits (counted c .before), counted c .before .before .loop .inv .2 .few)
 
 add-j : tie.Need-add-j Inv-loop μ-loop
-add-j c = search needs
+add-j c = omega (arith, counted c .alike .ensures .inside, ready-few (outside (counted c .before .before) .pre .0))
 
 loop-less : tie.Need-loop-less Inv-loop μ-loop
-loop-less c = search needs
+loop-less c = omega (arith, counted c .alike .ensures .some, counted c .before .loop-test .taken)
 
 loop-again : tie.Need-loop-again Inv-loop μ-loop
 loop-again c =
-    let turn = inside c in
+    let alike = counted c .alike .ensures in
+    let turn = counted c .before in
     let v = turn .before .loop in
     let a = outside (turn .before) .args in
     let ready = outside (turn .before) .pre .0 in
     let put = c .before .before .put-received in (
+      alike .inside,
       search needs,
-      search needs,
-      filling-more (view (a .state)) (entries (now (a .tray))) (v .keys) (v .at) (v .end) (v .j) _ (put .result) (sound-gives (a .state) (ready .sound)) (omega (arith, ready-size ready, turn .loop-test .taken)) (ready .short) (v .inv .2) (rw (list-is turn) at (put .ensures)),
+      filling-more (view (a .state)) (entries (now (a .tray))) (v .keys) (v .at) (v .end) (v .runs) (v .j) (counted c .alike .result) _ (put .result) (sound-gives (a .state) (ready .sound)) (alike .some) (omega (arith, ready-size ready, alike .inside)) (ready .short) (v .inv .2) (ready-alike ready (v .j) (counted c .alike .result) alike) (rw (list-is turn) at (put .ensures)),
     )
 
 same-length : tie.Need-same-length Inv-loop μ-loop
@@ -99,7 +111,7 @@ returns c =
     let a = outside (c .before) .args in
     let pre = outside (c .before) .pre in
     let e : v .j ≡ a .t3 .len = omega arith in
-    filling-end (a .state) (now (a .tray)) (v .keys) (v .at) (v .end) (a .t3 .len) (ready-size (pre .0)) (ready-few (pre .0)) (omega (arith, pre .1, v .inv .1)) (rw e at (v .inv .2))
+    filling-end (a .state) (now (a .tray)) (v .keys) (v .at) (v .end) (v .runs) (a .t3 .len) (ready-size (pre .0)) (ready-few (pre .0)) (omega (arith, pre .1, v .inv .1)) (rw e at (v .inv .2))
 
 pub fill-spec : {M : Type 1} → statement M
 fill-spec =
@@ -108,6 +120,7 @@ fill-spec =
     Inv-loop
     μ-loop
     loop-holds
+    alike-requires
     mul-put-received
     element-copy-out-put-received
     mul-put-received-2
@@ -116,6 +129,7 @@ fill-spec =
     sub-at
     mul-at
     array-write-at
+    add-runs
     add-j
     loop-less
     loop-again

@@ -18,8 +18,8 @@ module _ (b : List ℕ) (i t : ℕ) where
   found : (o n : ℕ) (s : List ℕ) → place b i ≡ At o n → s ≡ part b o n → listIn (content s t) ≡ listIn (readIn t (bytesAt b (place b i)))
   found o n s p e = rw (p, e)
 
-  missing : (to : ℕ) (keys : List ℕ) → place b i ≡ Nothing → PutsKeys (listIn (readIn t (bytesAt b (place b i)))) keys keys to to
-  missing to keys p = rw p record { place = omega arith; kept = sym (append-nil (take to keys)); small = λ j. omega arith }
+  missing : (c to : ℕ) (keys : List ℕ) → place b i ≡ Nothing → PutsKeys c (listIn (readIn t (bytesAt b (place b i)))) keys keys to to
+  missing c to keys p = rw p record { place = omega arith; kept = sym (append-nil (take to keys)); small = λ j. omega arith }
 
 -- the list of the part that is handed on
 list-is : (c : tie.After-part-of)
@@ -37,7 +37,9 @@ part-of-requires : tie.Need-part-of-requires
 part-of-requires c κs = search needs
 
 put-part-requires : tie.Need-put-part-requires
-put-part-requires c κs = omega (arith, ap length (list-is (c .before)), c .before .before .before .before .before .before .before .before .pre)
+put-part-requires c κs =
+    let pre = c .before .before .before .before .before .before .before .before .pre in
+    (pre .0, omega (arith, ap length (list-is (c .before)), pre .1))
 
 enum-told : tie.Need-enum-told
 enum-told c = search needs
@@ -49,7 +51,7 @@ returns : tie.Need-returns
 returns c = rw (list-is (c .before .before .before .before)) at (c .before .before .put-part .ensures)
 
 returns-2 : tie.Need-returns-2
-returns-2 c = missing _ _ _ _ _ (sym (c .before .before .entry-place .ensures) ∙ c .enum-told .given .1)
+returns-2 c = missing _ _ _ _ _ _ (sym (c .before .before .entry-place .ensures) ∙ c .enum-told .given .1)
 
 pub put-entry-spec : {M : Type 1} → statement M
 put-entry-spec =

@@ -18,11 +18,11 @@ use Rattle.controller.proofs.tally.put_keys.Statement.{statement}
 use Rattle.controller.proofs.tally.put_keys.Tie as tie
 
 abbrev Inv-loop : tie.InvT-loop
-Inv-loop keys₀ to list len k₀ i₀ keys k i =
-    (i ≤ len) × (k ≡ to + i) × (length keys ≡ length keys₀) × (take k keys ++ keysOf (drop i (listed list)) ≡ take to keys₀ ++ keysOf (listed list))
+Inv-loop count keys₀ to list len k₀ i₀ keys k i =
+    (i ≤ len) × (k ≡ to + i) × (length keys ≡ length keys₀) × (take k keys ++ keysOf count (drop i (listed list)) ≡ take to keys₀ ++ keysOf count (listed list))
 
 abbrev μ-loop : tie.MeasureT-loop
-μ-loop keys₀ to list len k₀ i₀ keys k i = len - i
+μ-loop count keys₀ to list len k₀ i₀ keys k i = len - i
 
 loop-holds : tie.Need-loop-holds Inv-loop μ-loop
 loop-holds c = (search needs, search needs, refl, refl)

@@ -41,9 +41,9 @@ module _ (s : List ℕ) (t n : ℕ) (e : n ≡ (readStored (content s t)) .numbe
   held i h = omega (arith, numbers-lie s t n e .1 (omega arith))
 
   -- all are written
-  done : (i to k : ℕ) (keys₀ keys : List ℕ) → Below 256 s → n ≤ i → i ≤ n → k ≡ to + i → take k keys ++ keysOf (rest s n i) ≡ take to keys₀ ++ keysOf (rest s n 0)
-      → PutsKeys (listIn (content s t)) keys₀ keys to k
-  done i to k keys₀ keys bytes over h place whole =
+  done : (c i to k : ℕ) (keys₀ keys : List ℕ) → Below 256 s → n ≤ i → i ≤ n → k ≡ to + i → take k keys ++ keysOf c (rest s n i) ≡ take to keys₀ ++ keysOf c (rest s n 0)
+      → PutsKeys c (listIn (content s t)) keys₀ keys to k
+  done c i to k keys₀ keys bytes over h place whole =
       let none : n - i ≡ 0 = omega arith in
       record {
         place = omega (arith, size);
@@ -52,18 +52,18 @@ module _ (s : List ℕ) (t n : ℕ) (e : n ≡ (readStored (content s t)) .numbe
       }
 
 abbrev Inv-loop : tie.InvT-loop
-Inv-loop bytes round keys₀ to len k₀ i₀ keys k i =
-    (i ≤ len) × (k ≡ to + i) × (length keys ≡ length keys₀) × (take k keys ++ keysOf (rest bytes len i) ≡ take to keys₀ ++ keysOf (rest bytes len 0))
+Inv-loop bytes round count keys₀ to len k₀ i₀ keys k i =
+    (i ≤ len) × (k ≡ to + i) × (length keys ≡ length keys₀) × (take k keys ++ keysOf count (rest bytes len i) ≡ take to keys₀ ++ keysOf count (rest bytes len 0))
 
 abbrev μ-loop : tie.MeasureT-loop
-μ-loop bytes round keys₀ to len k₀ i₀ keys k i = len - i
+μ-loop bytes round count keys₀ to len k₀ i₀ keys k i = len - i
 
 -- the call, and that the keys have room for the numbers
 abbrev outside : tie.At-loop Inv-loop μ-loop → tie.Start Inv-loop μ-loop
 outside c = c .before .before .before .before
 
 room : (c : tie.At-loop Inv-loop μ-loop) → outside c .args .to + c .before .read-count .result ≤ length (now (outside c .args .keys))
-room c = omega (arith, outside c .pre, size _ _ _ (c .before .read-count .ensures))
+room c = omega (arith, outside c .pre .1, size _ _ _ (c .before .read-count .ensures))
 
 read-count-requires : tie.Need-read-count-requires Inv-loop μ-loop
 read-count-requires c κs = search needs
@@ -113,7 +113,7 @@ returns : tie.Need-returns Inv-loop μ-loop
 returns c =
     let v = c .before .loop in
     let bytes : Below 256 (now (outside (c .before) .args .bytes)) = λ i. let h = c .before .before .before .before .shared-slice-known .given i in omega arith in
-    done _ _ _ (c .before .before .read-count .ensures) (v .i) _ _ _ _ bytes (c .loop-test .left) (v .inv .0) (v .inv .1) (v .inv .3)
+    done _ _ _ (c .before .before .read-count .ensures) _ (v .i) _ _ _ _ bytes (c .loop-test .left) (v .inv .0) (v .inv .1) (v .inv .3)
 
 pub put-part-spec : {M : Type 1} → statement M
 put-part-spec =

@@ -45,13 +45,13 @@ put-keys-requires c κs =
     let frame = c .before .before .own-frame in
     let few = writable-count (frameOf (view (a .state))) (frame-writable (view (a .state)) (sound-gives (a .state) (start .pre .0))) in
     let size = own-size (a .state) (now (a .tray)) (a .x) (a .entry) (frame .result) (c .before .before .before .if1 .taken) (frame .ensures) in
-    (rw (frame .ensures) few, omega (arith, size, start .pre .1))
+    (rw (frame .ensures) few, start .pre .1, omega (arith, size, start .pre .2))
 
 put-entry-requires : tie.Need-put-entry-requires
 put-entry-requires c κs =
     let start = c .before .before .before .before in
     let a = start .args in
-    omega (arith, ap length (other (a .state) (now (a .tray)) (a .x) (a .entry) (c .before .if1 .left)), start .pre .1)
+    (start .pre .1, omega (arith, ap length (other (a .state) (now (a .tray)) (a .x) (a .entry) (c .before .if1 .left)), start .pre .2))
 
 same-length : tie.Need-same-length
 same-length c = search needs
