@@ -356,39 +356,40 @@ halving-end src r dst out from to i j k g over =
 
 -- ---- numbers and their keys
 
-pub keys-length : (l : List ℕ) → length (keysOf l) ≡ length l
-keys-length [] = refl
-keys-length (x ∷ l) = ap suc (keys-length l)
+pub keys-length : (c : ℕ) (l : List ℕ) → length (keysOf c l) ≡ length l
+keys-length c [] = refl
+keys-length c (x ∷ l) = ap suc (keys-length c l)
 
-key-number : (x : ℕ) → (x * 128 + 1) / 128 ≡ x
-key-number x = omega arith
+module _ (c : ℕ) (h : c < 128) where
+  key-number : (x : ℕ) → (x * 128 + c) / 128 ≡ x
+  key-number x = omega arith
 
-key-one : (x : ℕ) → (x * 128 + 1) % 128 ≡ 1
-key-one x = omega arith
+  key-counts : (x : ℕ) → (x * 128 + c) % 128 ≡ c
+  key-counts x = omega arith
 
-pub keys-every : (P : ℕ → Type 0) (l : List ℕ) → ((x : ℕ) → In x l → P x) → (y : ℕ) → In y (keysOf l) → P (y / 128)
-keys-every P [] p y i = absurd (List·Memᴰ·not-nil i)
-keys-every P (x ∷ l) p y i =
-    every-cons P (x * 128 + 1) (keysOf l) (rw (key-number x) (p x (List·Memᴰ·head refl))) (keys-every P l (λ z j. p z (List·Memᴰ·tail j))) y i
+  pub keys-every : (P : ℕ → Type 0) (l : List ℕ) → ((x : ℕ) → In x l → P x) → (y : ℕ) → In y (keysOf c l) → P (y / 128)
+  keys-every P [] p y i = absurd (List·Memᴰ·not-nil i)
+  keys-every P (x ∷ l) p y i =
+      every-cons P (x * 128 + c) (keysOf c l) (rw (key-number x) (p x (List·Memᴰ·head refl))) (keys-every P l (λ z j. p z (List·Memᴰ·tail j))) y i
 
-pub keys-rise : (l : List ℕ) → Rising l → ((x : ℕ) → In x l → x < 4294967296) → RisingKeys (keysOf l)
-keys-rise [] up small = tt
-keys-rise (x ∷ l) up small = (
-  rw (key-number x) (small x (List·Memᴰ·head refl)),
-  rw (key-number x) (keys-every (λ z. x < z) l (up .0)),
-  keys-rise l (up .1) (λ y i. small y (List·Memᴰ·tail i)),
-)
+  pub keys-rise : (l : List ℕ) → Rising l → ((x : ℕ) → In x l → x < 4294967296) → RisingKeys (keysOf c l)
+  keys-rise [] up small = tt
+  keys-rise (x ∷ l) up small = (
+    rw (key-number x) (small x (List·Memᴰ·head refl)),
+    rw (key-number x) (keys-every (λ z. x < z) l (up .0)),
+    keys-rise l (up .1) (λ y i. small y (List·Memᴰ·tail i)),
+  )
 
-pub keys-counted : (x : ℕ) (l : List ℕ) → Rising l → counted x (keysOf l) ≡ cond (mem x l) 1 0
-keys-counted x [] up = refl
-keys-counted x (y ∷ l) up =
-    let rest = keys-counted x l (up .1) in
-    elim (ℕ-discrete x y) [
-      | yes e ↦
-          let none = rw (out-mem {x = x} l (λ i. absurd (omega (arith, up .0 x i)))) at rest in
-          rw (key-number y, key-one y, eq-eqb y x (sym e), eq-eqb x y e) (omega arith)
-      | no d ↦ rw (key-number y, ne-eqb y x (λ e. d (sym e)), ne-eqb x y d) (omega arith)
-    ]
+  pub keys-counted : (x : ℕ) (l : List ℕ) → Rising l → counted x (keysOf c l) ≡ cond (mem x l) c 0
+  keys-counted x [] up = refl
+  keys-counted x (y ∷ l) up =
+      let rest = keys-counted x l (up .1) in
+      elim (ℕ-discrete x y) [
+        | yes e ↦
+            let none = rw (out-mem {x = x} l (λ i. absurd (omega (arith, up .0 x i)))) at rest in
+            rw (key-number y, key-counts y, eq-eqb y x (sym e), eq-eqb x y e) (omega arith)
+        | no d ↦ rw (key-number y, ne-eqb y x (λ e. d (sym e)), ne-eqb x y d) (omega arith)
+      ]
 
 pub numbers-length : (l : List ℕ) → length (numbersIn l) ≡ length l
 numbers-length [] = refl
