@@ -4,6 +4,7 @@ ghost use mathlib.Core.Bool.{cond, _&&_};
 ghost use mathlib.Core.List.{[]};
 ghost use mathlib.Core.Option.{some, none};
 ghost use Prim.Native.Nat.{_+_, _*_, _≤_};
+ghost use lib.Dec.{leb};
 ghost use lib.ListN.{length};
 ghost use lib.Seq.{sets};
 ghost use Rattle.wire.specs.Limits.{frameHeader, numberWidth, maxNumbers};
@@ -345,12 +346,18 @@ pub fn read_count(bytes: &[u8], round: u32) -> usize
     }
 }
 
-// The number at a place of a frame's list.
+// The number at a place of a frame's list; 0 where the bytes end before it.
 pub fn read_number(bytes: &[u8], i: usize) -> u32
-    requires { ⌜ frameHeader + numberWidth * (i + 1) ≤ length (now bytes) ⌝ }
-    ensures { λ r. ⌜ r ≡ wordAt (now (bytes .entry)) (frameHeader + numberWidth * i) ⌝ }
+    ensures { λ r. ⌜ r ≡ cond (leb (frameHeader + numberWidth * (i + 1)) (length (now (bytes .entry)))) (wordAt (now (bytes .entry)) (frameHeader + numberWidth * i)) 0 ⌝ }
 {
-    word(bytes, FRAME_HEADER + NUMBER_WIDTH * i)
+    if bytes.len() < FRAME_HEADER {
+        return 0;
+    }
+    if i < (bytes.len() - FRAME_HEADER) / NUMBER_WIDTH {
+        word(bytes, FRAME_HEADER + NUMBER_WIDTH * i)
+    } else {
+        0
+    }
 }
 
 fn bit_chosen(choice: Choice) -> u8

@@ -1,11 +1,14 @@
 -- `controller::tally::put_part` meets its contract: what is written so far and the keys of what is left to read are the whole.
 use Prim.Native.Nat.{ℕ, _+_, _*_, _-_, _≤_, _<_}
-use mathlib.Core.List.{List, _++_, append-nil}
+use mathlib.Core.Bool.{cond}
+use mathlib.Core.List.{List, _∷_, _++_, append-nil}
 use mathlib.Core.Path.{_≡_, refl, sym, ap, _∙_}
 use native.Mathlib.Nat.{sub-zero}
 use native.Mathlib.Omega.{arith}
 use borrow.Author.Needs.{needs}
+use borrow.Author.Tests.{le-leb}
 use denote.Ref.{now}
+use lib.Dec.{leb}
 use lib.ListN.{length, take}
 use Rattle.wire.specs.Frame.{content, readStored}
 use Rattle.wire.specs.Laws.Frame.{numbers-lie}
@@ -13,7 +16,7 @@ use Rattle.wire.specs.Laws.Numbers.{listed-stored}
 use Rattle.wire.specs.Laws.Words.{words-step, words-length, words-below}
 use Rattle.wire.specs.Limits.{frameHeader, numberWidth}
 use Rattle.wire.specs.Numbers.{listed}
-use Rattle.wire.specs.Words.{wordsAt, Below}
+use Rattle.wire.specs.Words.{wordAt, wordsAt, Below}
 use Rattle.controller.specs.Keys.{keysOf, PutsKeys}
 use Rattle.controller.specs.Laws.Keys.{one-more}
 use Rattle.controller.specs.Laws.Received.{read-numbers-are}
@@ -36,9 +39,12 @@ module _ (s : List ℕ) (t n : ℕ) (e : n ≡ (readStored (content s t)) .numbe
   size : length (listIn (content s t)) ≡ n
   size = ap length list-is ∙ words-length s frameHeader (n - 0) ∙ sub-zero n
 
-  -- the bytes hold the number of each turn
-  held : (i : ℕ) → i < n → frameHeader + numberWidth * (i + 1) ≤ length s
-  held i h = omega (arith, numbers-lie s t n e .1 (omega arith))
+  -- the number of each turn lies in the bytes
+  next : (i x : ℕ) → i < n → x ≡ cond (leb (frameHeader + numberWidth * (i + 1)) (length s)) (wordAt s (frameHeader + numberWidth * i)) 0
+      → rest s n i ≡ x ∷ rest s n (i + 1)
+  next i x h read =
+      let inside : frameHeader + numberWidth * (i + 1) ≤ length s = omega (arith, numbers-lie s t n e .1 (omega arith)) in
+      words-step s frameHeader i n h ∙ rw (read, le-leb _ _ inside)
 
   -- all are written
   done : (c i to k : ℕ) (keys₀ keys : List ℕ) → Below 256 s → n ≤ i → i ≤ n → k ≡ to + i → take k keys ++ keysOf c (rest s n i) ≡ take to keys₀ ++ keysOf c (rest s n 0)
@@ -72,7 +78,7 @@ loop-holds : tie.Need-loop-holds Inv-loop μ-loop
 loop-holds c = (search needs, search needs, refl, refl)
 
 read-number-requires : tie.Need-read-number-requires Inv-loop μ-loop
-read-number-requires c κs = held _ _ _ (c .before .before .read-count .ensures) (c .before .loop .i) (c .loop-test .taken)
+read-number-requires c κs = search needs
 
 cast-keys : tie.Need-cast-keys Inv-loop μ-loop
 cast-keys c = search needs
@@ -102,8 +108,7 @@ loop-again : tie.Need-loop-again Inv-loop μ-loop
 loop-again c =
     let turn = c .before .before in
     let v = turn .loop in
-    let next = words-step (now (outside turn .args .bytes)) frameHeader (v .i) (turn .before .read-count .result) (c .before .loop-test .taken) in
-    let e = rw (sym (c .read-number .ensures)) at next in
+    let e = next _ _ _ (turn .before .read-count .ensures) (v .i) (c .read-number .result) (c .before .loop-test .taken) (c .read-number .ensures) in
     (search needs, search needs, search needs, one-more (v .keys) _ _ (v .k) _ (omega (arith, room turn)) (rw e at (v .inv .3)))
 
 same-length : tie.Need-same-length Inv-loop μ-loop
