@@ -6,7 +6,7 @@
 --     Ready s b n f            what a step finds: a sound state s, a tray b with no sender 0, those heard after it as n, and in f the first entry of each of them
 --     contentUnder s b x i     the content of the frame received under x in the state s, with its first entry i in the tray b
 --     saidUnder o t d b x i    what that frame says, where o is the own number, t the round and d said
---     Alike o b n f j r        under each of the r numbers of n from place j on the same bytes are received, or there is one, where o is the own number
+--     Alike o b l n f j r      under each of the r numbers from place j on, of the n numbers l with their first entries f, the same bytes are received, or r is 1; o is the own number
 --     saysRead, opinionRead    `says` and `opinionIn` of a frame that was read without its list
 --     CountsBits k v es r      r has how many of those heard sent each bit in a frame of kind k
 --     Tallies s b k r          the keys k, in the runs r, count each number as the received lists do
@@ -83,11 +83,11 @@ abbrev pub saidUnder : ℕ → ℕ → ℕ → List ℕ → ℕ → ℕ → Read
 saidUnder own round said b x i =
     cond (eqb x own) (Valid (record { round = round; said = saidBy (kindOf round) said })) ((readStored (readIn round (bytesAt b (place b i)))) .read)
 
-pub record Alike (own : ℕ) (b : List ℕ) (n : Numbers) (f : Firsts) (j r : ℕ) : Type 0 where
+pub record Alike (own : ℕ) (b l : List ℕ) (n : ℕ) (f : List ℕ) (j r : ℕ) : Type 0 where
   pub some : 0 < r
-  pub inside : j + r ≤ n .len
+  pub inside : j + r ≤ n
   pub same : (i : ℕ) → j < i → i < j + r
-      → (getD (n .at) j 0 ≢ own) × (getD (n .at) i 0 ≢ own) × (bytesAt b (place b (getD (f .at) i 0)) ≡ bytesAt b (place b (getD (f .at) j 0)))
+      → (getD l j 0 ≢ own) × (getD l i 0 ≢ own) × (bytesAt b (place b (getD f i 0)) ≡ bytesAt b (place b (getD f j 0)))
 
 abbrev pub saysRead : ℕ → ℕ → Read → Bool
 saysRead k b Void = false

@@ -153,19 +153,19 @@ fn same_entry(tray: &[u8], e: usize, f: usize) -> bool
 }
 
 // How many of those heard, from place `j` on, are sure to have sent the same list: their frames have the same bytes.
-fn alike(own: u32, tray: &[u8], heard: Numbers, firsts: Firsts, j: usize) -> usize
-    requires { ⌜ (heard .len ≤ maxNumbers) × (j < heard .len) ⌝ }
-    ensures { λ r. ⌜ Alike own (now (tray .entry)) heard firsts j r ⌝ }
+fn alike(own: u32, tray: &[u8], heard: &[u32], len: usize, firsts: &[usize], j: usize) -> usize
+    requires { ⌜ (len ≤ length (now heard)) × (len ≤ length (now firsts)) × (j < len) ⌝ }
+    ensures { λ r. ⌜ Alike own (now (tray .entry)) (now (heard .entry)) len (now (firsts .entry)) j r ⌝ }
 {
-    if heard.at[j] == own {
+    if heard[j] == own {
         return 1;
     }
     let mut i = j + 1;
-    while i < heard.len {
-        if heard.at[i] == own {
+    while i < len {
+        if heard[i] == own {
             return i - j;
         }
-        if same_entry(tray, firsts.at[j], firsts.at[i]) {
+        if same_entry(tray, firsts[j], firsts[i]) {
             i += 1;
         } else {
             return i - j;
@@ -186,7 +186,7 @@ fn fill(state: State, tray: &[u8], heard: Numbers, firsts: Firsts, keys: &mut [u
     let mut end = 0;
     let mut j = 0;
     while j < len {
-        let count = alike(state.own, tray, heard, firsts, j);
+        let count = alike(state.own, tray, &heard.at, len, &firsts.at, j);
         let next = put_received(
             state,
             tray,

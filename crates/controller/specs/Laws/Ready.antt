@@ -60,8 +60,8 @@ module _ {s : State} {b : List ℕ} {n : Numbers} {f : Firsts} (ready : Ready s 
   pub ready-list : (j : ℕ) → j < n .len → listIn (contentUnder s b (getD (n .at) j 0) (getD (f .at) j 0)) ≡ listAt (view s) (entries b) j
   ready-list j h = ap listIn (ready-content j h) ∙ rw ready-listed
 
-  -- equal bytes under equal numbers, or others than the own one, are equal lists
-  pub ready-alike : (j r : ℕ) → Alike (s .own) b n f j r → (i : ℕ) → j ≤ i → i < j + r → listAt (view s) (entries b) i ≡ listAt (view s) (entries b) j
+  -- the same bytes under other numbers than the own one are equal lists
+  pub ready-alike : (j r : ℕ) → Alike (s .own) b (n .at) (n .len) (f .at) j r → (i : ℕ) → j ≤ i → i < j + r → listAt (view s) (entries b) i ≡ listAt (view s) (entries b) j
   ready-alike j r a i l u = elim (ℕ-discrete i j) [
     | yes e ↦ rw e
     | no d ↦

@@ -13,22 +13,22 @@ use Rattle.controller.proofs.tally.alike.Statement.{statement}
 use Rattle.controller.proofs.tally.alike.Tie as tie
 
 abbrev Inv-loop : tie.InvT-loop
-Inv-loop own tray j heard firsts i₀ i =
+Inv-loop own tray heard len firsts j i₀ i =
     (j < i)
-    × (i ≤ heard .len)
+    × (i ≤ len)
     × ((k : ℕ) → j < k → k < i
-    → (getD (heard .at) k 0 ≢ own) × (bytesAt tray (place tray (getD (firsts .at) k 0)) ≡ bytesAt tray (place tray (getD (firsts .at) j 0))))
+    → (getD heard k 0 ≢ own) × (bytesAt tray (place tray (getD firsts k 0)) ≡ bytesAt tray (place tray (getD firsts j 0))))
 
 abbrev μ-loop : tie.MeasureT-loop
-μ-loop own tray j heard firsts i₀ i = heard .len - i
+μ-loop own tray heard len firsts j i₀ i = len - i
 
 abbrev outside : tie.At-loop Inv-loop μ-loop → tie.Start Inv-loop μ-loop
-outside c = c .before .before .before .before
+outside c = c .before .before .before .before .before .before
 
 -- the places passed so far are the answer
 so-far : (c : tie.At-loop Inv-loop μ-loop)
     → let a = outside c .args in
-    Alike (a .own) (now (a .tray)) (a .t3) (a .t4) (a .j) (c .loop .i - a .j)
+    Alike (a .own) (now (a .tray)) (now (a .heard)) (a .len) (now (a .firsts)) (a .j) (c .loop .i - a .j)
 so-far c =
     let v = c .loop in
     record {
@@ -40,23 +40,23 @@ so-far c =
 mul-if1 : tie.Need-mul-if1 Inv-loop μ-loop
 mul-if1 c = search needs
 
-element-copy-out-if1 : tie.Need-element-copy-out-if1 Inv-loop μ-loop
-element-copy-out-if1 c = search needs
+shared-slice-read-if1 : tie.Need-shared-slice-read-if1 Inv-loop μ-loop
+shared-slice-read-if1 c = search needs
 
 returns : tie.Need-returns Inv-loop μ-loop
-returns c = record { some = omega arith; inside = omega (arith, c .before .before .before .pre .1); same = λ k l u. absurd (omega arith) }
+returns c = record { some = omega arith; inside = omega (arith, c .before .before .before .before .before .pre .2); same = λ k l u. absurd (omega arith) }
 
 add-i : tie.Need-add-i Inv-loop μ-loop
 add-i c = search needs
 
 loop-holds : tie.Need-loop-holds Inv-loop μ-loop
-loop-holds c = (omega arith, omega (arith, c .before .before .before .pre .1), λ k l u. absurd (omega arith))
+loop-holds c = (omega arith, omega (arith, c .before .before .before .before .before .pre .2), λ k l u. absurd (omega arith))
 
 mul-if2 : tie.Need-mul-if2 Inv-loop μ-loop
 mul-if2 c = search needs
 
-element-copy-out-if2 : tie.Need-element-copy-out-if2 Inv-loop μ-loop
-element-copy-out-if2 c = search needs
+shared-slice-read-if2 : tie.Need-shared-slice-read-if2 Inv-loop μ-loop
+shared-slice-read-if2 c = search needs
 
 sub-result : tie.Need-sub-result Inv-loop μ-loop
 sub-result c = search needs
@@ -67,14 +67,14 @@ returns-2 c = so-far (c .before .before .before)
 mul-same-entry : tie.Need-mul-same-entry Inv-loop μ-loop
 mul-same-entry c = search needs
 
-element-copy-out-same-entry : tie.Need-element-copy-out-same-entry Inv-loop μ-loop
-element-copy-out-same-entry c = search needs
+shared-slice-read-same-entry : tie.Need-shared-slice-read-same-entry Inv-loop μ-loop
+shared-slice-read-same-entry c = search needs
 
 mul-same-entry-2 : tie.Need-mul-same-entry-2 Inv-loop μ-loop
 mul-same-entry-2 c = search needs
 
-element-copy-out-same-entry-2 : tie.Need-element-copy-out-same-entry-2 Inv-loop μ-loop
-element-copy-out-same-entry-2 c = search needs
+shared-slice-read-same-entry-2 : tie.Need-shared-slice-read-same-entry-2 Inv-loop μ-loop
+shared-slice-read-same-entry-2 c = search needs
 
 same-entry-requires : tie.Need-same-entry-requires Inv-loop μ-loop
 same-entry-requires c κs = search needs
@@ -114,18 +114,18 @@ alike-spec =
     Inv-loop
     μ-loop
     mul-if1
-    element-copy-out-if1
+    shared-slice-read-if1
     returns
     add-i
     loop-holds
     mul-if2
-    element-copy-out-if2
+    shared-slice-read-if2
     sub-result
     returns-2
     mul-same-entry
-    element-copy-out-same-entry
+    shared-slice-read-same-entry
     mul-same-entry-2
-    element-copy-out-same-entry-2
+    shared-slice-read-same-entry-2
     same-entry-requires
     add-i-2
     loop-less

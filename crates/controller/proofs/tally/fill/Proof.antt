@@ -23,9 +23,12 @@ Inv-loop state tray keys₀ heard firsts len at₀ runs₀ end₀ j₀ keys at r
 abbrev μ-loop : tie.MeasureT-loop
 μ-loop state tray keys₀ heard firsts len at₀ runs₀ end₀ j₀ keys at runs end j = len - j
 
--- the call, and the count of a turn
+-- the call, a turn, and its count
 abbrev outside : tie.At-loop Inv-loop μ-loop → tie.Start Inv-loop μ-loop
 outside c = c .before .before .before
+
+abbrev turn : tie.After-alike Inv-loop μ-loop → tie.In-loop Inv-loop μ-loop
+turn c = c .before .before .before .before .before .before .before
 
 abbrev counted : tie.After-slice-known2 Inv-loop μ-loop → tie.After-alike Inv-loop μ-loop
 counted c = c .before .before .before .before .before .before
@@ -44,62 +47,65 @@ loop-holds : tie.Need-loop-holds Inv-loop μ-loop
 loop-holds c = (search needs, refl, filling-start _ _ _)
 
 alike-requires : tie.Need-alike-requires Inv-loop μ-loop
-alike-requires c κs = (ready-few (outside (c .before) .pre .0), c .loop-test .taken)
+alike-requires c κs =
+    let in-turn = c .before .before .before .before .before .before in
+    let few = ready-few (outside (in-turn .before) .pre .0) in
+    (search needs, search needs, in-turn .loop-test .taken)
 
 mul-put-received : tie.Need-mul-put-received Inv-loop μ-loop
-mul-put-received c = omega (arith, place-fits (c .before))
+mul-put-received c = omega (arith, place-fits (turn c))
 
 element-copy-out-put-received : tie.Need-element-copy-out-put-received Inv-loop μ-loop
-element-copy-out-put-received c = omega (arith, place-fits (c .before))
+element-copy-out-put-received c = omega (arith, place-fits (turn c))
 
 mul-put-received-2 : tie.Need-mul-put-received-2 Inv-loop μ-loop
-mul-put-received-2 c = omega (arith, place-fits (c .before .before))
+mul-put-received-2 c = omega (arith, place-fits (turn (c .before)))
 
 element-copy-out-put-received-2 : tie.Need-element-copy-out-put-received-2 Inv-loop μ-loop
-element-copy-out-put-received-2 c = omega (arith, place-fits (c .before .before))
+element-copy-out-put-received-2 c = omega (arith, place-fits (turn (c .before)))
 
 put-received-requires : tie.Need-put-received-requires Inv-loop μ-loop
 put-received-requires c κs =
     let alike = c .before .before .before .alike .ensures in
-    let turn = c .before .before .before .before in
-    let v = turn .before .loop in
-    let a = outside (turn .before) .args in
-    let pre = outside (turn .before) .pre in
+    let in-turn = turn (c .before .before .before) in
+    let v = in-turn .before .loop in
+    let a = outside (in-turn .before) .args in
+    let pre = outside (in-turn .before) .pre in
     let short = list-at-sound (view (a .state)) (entries (now (a .tray))) (sound-gives (a .state) (pre .0 .sound)) (v .j) .short in (
       pre .0 .sound,
       omega (arith, alike .inside, ready-few (pre .0)),
-      omega (arith, ap length (list-is turn), short, v .inv .2 .place, v .inv .2 .few, v .inv .1, pre .1, turn .loop-test .taken),
+      omega (arith, ap length (list-is in-turn), short, v .inv .2 .place, v .inv .2 .few, v .inv .1, pre .1, in-turn .loop-test .taken),
     )
 
 sub-at : tie.Need-sub-at Inv-loop μ-loop
 sub-at c = omega (arith, c .before .before .put-received .ensures .place)
 
 mul-at : tie.Need-mul-at Inv-loop μ-loop
-mul-at c = omega (arith, place-fits (counted c .before), counted c .before .before .loop .inv .2 .few)
+mul-at c = omega (arith, place-fits (turn (counted c)), turn (counted c) .before .loop .inv .2 .few)
 
 array-write-at : tie.Need-array-write-at Inv-loop μ-loop
-array-write-at c = omega (arith, place-fits (counted c .before), counted c .before .before .loop .inv .2 .few)
+array-write-at c = omega (arith, place-fits (turn (counted c)), turn (counted c) .before .loop .inv .2 .few)
 
 add-runs : tie.Need-add-runs Inv-loop μ-loop
-add-runs c = omega (arith, place-fits (counted c .before), counted c .before .before .loop .inv .2 .few)
+add-runs c = omega (arith, place-fits (turn (counted c)), turn (counted c) .before .loop .inv .2 .few)
 
 add-j : tie.Need-add-j Inv-loop μ-loop
-add-j c = omega (arith, counted c .alike .ensures .inside, ready-few (outside (counted c .before .before) .pre .0))
+add-j c = omega (arith, counted c .alike .ensures .inside, ready-few (outside (turn (counted c) .before) .pre .0))
 
 loop-less : tie.Need-loop-less Inv-loop μ-loop
-loop-less c = omega (arith, counted c .alike .ensures .some, counted c .before .loop-test .taken)
+loop-less c = omega (arith, counted c .alike .ensures .some, turn (counted c) .loop-test .taken)
 
 loop-again : tie.Need-loop-again Inv-loop μ-loop
 loop-again c =
     let alike = counted c .alike .ensures in
-    let turn = counted c .before in
-    let v = turn .before .loop in
-    let a = outside (turn .before) .args in
-    let ready = outside (turn .before) .pre .0 in
+    let in-turn = turn (counted c) in
+    let v = in-turn .before .loop in
+    let a = outside (in-turn .before) .args in
+    let ready = outside (in-turn .before) .pre .0 in
     let put = c .before .before .put-received in (
       alike .inside,
       search needs,
-      filling-more (view (a .state)) (entries (now (a .tray))) (v .keys) (v .at) (v .end) (v .runs) (v .j) (counted c .alike .result) _ (put .result) (sound-gives (a .state) (ready .sound)) (alike .some) (omega (arith, ready-size ready, alike .inside)) (ready .short) (v .inv .2) (ready-alike ready (v .j) (counted c .alike .result) alike) (rw (list-is turn) at (put .ensures)),
+      filling-more (view (a .state)) (entries (now (a .tray))) (v .keys) (v .at) (v .end) (v .runs) (v .j) (counted c .alike .result) _ (put .result) (sound-gives (a .state) (ready .sound)) (alike .some) (omega (arith, ready-size ready, alike .inside)) (ready .short) (v .inv .2) (ready-alike ready (v .j) (counted c .alike .result) alike) (rw (list-is in-turn) at (put .ensures)),
     )
 
 same-length : tie.Need-same-length Inv-loop μ-loop
