@@ -23,7 +23,8 @@ use Rattle.controller.specs.State.{View, view, sound, soundList}
 use Rattle.controller.specs.Received.{heardAfter, received, listIn}
 use Rattle.controller.specs.Rotation.{tally, echoed, candidatesAfter}
 use Rattle.controller.specs.Storage.{Tallies, echoesIn, candidatesIn, SortsOut, GrowsLists}
-use Rattle.controller.specs.Laws.Keys.{counted-append, merged-counts, merged-every, merged-rises, cut-more, keys-length, keys-every, keys-rise, keys-counted, numbers-in, numbers-from, numbers-rise, key-count, counted-some, keep-keys, keep-counted}
+use Rattle.controller.specs.Laws.Keys.{keys-length, keys-every, keys-rise, keys-counted, numbers-in, numbers-from, numbers-rise, key-count, counted-some, keep-keys, keep-counted}
+use Rattle.controller.specs.Laws.Merge.{counted-append, merged-counts, merged-every, merged-rises, cut-more}
 use Rattle.controller.specs.Laws.Lists.{true-or-false, in-mem, out-mem, mem-out, in-or-not, rising-gives, rising-same, count-length, count-run, keep-in}
 use Rattle.controller.specs.Laws.Thirds.{third-is, two-thirds-is}
 use Rattle.controller.specs.Laws.State.{SoundList, Sound, sound-list-test, sound-gives, sound-stored}

@@ -12,7 +12,8 @@ use Rattle.wire.specs.Numbers.{stored, listed}
 use Rattle.wire.specs.declared.frame.Numbers.{Numbers}
 use Rattle.controller.specs.Lists.{mem}
 use Rattle.controller.specs.Keys.{RisingKeys, merged, Slim, Mergeable, Merges, keysOf, numbersIn, joinedBy, PutsKeys, Joinable}
-use Rattle.controller.specs.Laws.Keys.{merged-rises, keys-rise, keys-counted, numbers-length}
+use Rattle.controller.specs.Laws.Keys.{keys-rise, keys-counted, numbers-length}
+use Rattle.controller.specs.Laws.Merge.{merged-rises}
 use Rattle.controller.specs.Laws.Lists.{true-or-false}
 use Rattle.controller.specs.Laws.State.{ListTests, sound-list-gives}
 use Rattle.controller.specs.Laws.Storage.{grown-fits, grown-full}

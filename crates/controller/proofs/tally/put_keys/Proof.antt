@@ -12,7 +12,7 @@ use lib.Seq.{slice-cons, length-take-le}
 use Rattle.wire.specs.Limits.{maxNumbers}
 use Rattle.wire.specs.Numbers.{listed}
 use Rattle.controller.specs.Keys.{keysOf}
-use Rattle.controller.specs.Laws.Keys.{one-more, slice-none}
+use Rattle.controller.specs.Laws.Merge.{one-more, slice-none}
 use Rattle.controller.specs.Laws.Tally.{below-take}
 use Rattle.controller.proofs.tally.put_keys.Statement.{statement}
 use Rattle.controller.proofs.tally.put_keys.Tie as tie

@@ -18,7 +18,7 @@ use Rattle.wire.specs.Limits.{frameHeader, numberWidth}
 use Rattle.wire.specs.Numbers.{listed}
 use Rattle.wire.specs.Words.{wordAt, wordsAt, Below}
 use Rattle.controller.specs.Keys.{keysOf, PutsKeys}
-use Rattle.controller.specs.Laws.Keys.{one-more}
+use Rattle.controller.specs.Laws.Merge.{one-more}
 use Rattle.controller.specs.Laws.Received.{read-numbers-are}
 use Rattle.controller.specs.Received.{listIn}
 use Rattle.controller.proofs.tally.put_part.Statement.{statement}
