@@ -10,12 +10,12 @@
 --     Keyed s r                the first keys of s are the runs r, and no number is counted more than 64 times
 --     Halves s r d h           the runs h of d count as the runs r of s do, and are half as many
 --     OneRun s r f n           the first n keys of f rise, and count as the runs r of s do
---     keysOf l                 the keys of the numbers l, each counted once
+--     keysOf c l               the keys of the numbers l, each with the count c
 --     numbersIn l              the numbers of the keys l
 --     reaching b l             the keys of l whose counts, three times, reach b
 --     newTo c l                the keys of l whose numbers are not in c
 --     joinedBy l c             the numbers c, with those of the keys l
---     PutsKeys n s f t r       the places of f up to r are those of s up to t, and then the keys of the list n
+--     PutsKeys c l s f t r     the places of f up to r are those of s up to t, and then the keys of the numbers l, which fit 32 bits, with the count c
 --     Keeps m f e r            the first r keys of f are m, and r is at most e
 --     Joinable a b e n         what joining finds: e rising keys in a with small counts, a sound list n, and room for both
 use Prim.Native.Nat.{ℕ, _+_, _*_, _/_, _%_, _<_, _≤_}
@@ -26,7 +26,7 @@ use lib.Dec.{leb, ltb, eqb}
 use lib.ListN.{length, getD, take, drop}
 use lib.Seq.{slice}
 use Rattle.wire.specs.Limits.{maxNumbers}
-use Rattle.wire.specs.Numbers.{listed}
+use Rattle.wire.specs.Words.{Below}
 use Rattle.wire.specs.declared.frame.Numbers.{Numbers}
 use Rattle.controller.specs.Lists.{In, mem, keep}
 use Rattle.controller.specs.State.{soundList}
@@ -87,9 +87,9 @@ pub record OneRun (s : List ℕ) (r : Runs) (f : List ℕ) (n : ℕ) : Type 0 wh
   pub rises : RisingKeys (take n f)
   pub counts : (x : ℕ) → counted x (take n f) ≡ counted x (take (r .end) s)
 
-abbrev pub keysOf : List ℕ → List ℕ
-keysOf [] = []
-keysOf (x ∷ l) = (x * 128 + 1) ∷ keysOf l
+abbrev pub keysOf : ℕ → List ℕ → List ℕ
+keysOf c [] = []
+keysOf c (x ∷ l) = (x * 128 + c) ∷ keysOf c l
 
 abbrev pub numbersIn : List ℕ → List ℕ
 numbersIn [] = []
@@ -102,12 +102,12 @@ abbrev pub newTo : List ℕ → List ℕ → List ℕ
 newTo c l = keep (λ (k : ℕ). not (mem (k / 128) c)) l
 
 abbrev pub joinedBy : List ℕ → List ℕ → List ℕ
-joinedBy l c = numbersIn (merged l (keysOf c))
+joinedBy l c = numbersIn (merged l (keysOf 1 c))
 
-pub record PutsKeys (n : Numbers) (s f : List ℕ) (to r : ℕ) : Type 0 where
-  pub place : r ≡ to + n .len
-  pub kept : take r f ≡ take to s ++ keysOf (listed n)
-  pub small : (i : ℕ) → i < n .len → getD (n .at) i 0 < 4294967296
+pub record PutsKeys (c : ℕ) (l s f : List ℕ) (to r : ℕ) : Type 0 where
+  pub place : r ≡ to + length l
+  pub kept : take r f ≡ take to s ++ keysOf c l
+  pub small : Below 4294967296 l
 
 pub record Keeps (m f : List ℕ) (e r : ℕ) : Type 0 where
   pub kept : take r f ≡ m

@@ -2,6 +2,7 @@
 pub mod Examples
 pub mod Keys
 pub mod Lists
+pub mod Merge
 pub mod Ready
 pub mod Received
 pub mod Refusals

@@ -4,7 +4,9 @@
 --     opened i x n s           the places s of a list of n numbers with x put in at place i: the numbers from there on stand one place further
 --     grown l n                the stored form of l where it has at most 64 numbers; else the list n, and that it did not fit
 --     Ready s b n f            what a step finds: a sound state s, a tray b with no sender 0, those heard after it as n, and in f the first entry of each of them
---     saidUnder o t d b x i    what the frame received under x says, with its first entry i in the tray b, where o is the own number, t the round and d said
+--     contentUnder s b x i     the content of the frame received under x in the state s, with its first entry i in the tray b
+--     saidUnder o t d b x i    what that frame says, where o is the own number, t the round and d said
+--     Alike o b l n f j r      under each of the r numbers from place j on, of the n numbers l with their first entries f, the same bytes are received, or r is 1; o is the own number
 --     saysRead, opinionRead    `says` and `opinionIn` of a frame that was read without its list
 --     CountsBits k v es r      r has how many of those heard sent each bit in a frame of kind k
 --     Tallies s b k r          the keys k, in the runs r, count each number as the received lists do
@@ -22,6 +24,8 @@
 use Prim.Native.Nat.{ℕ, _+_, _*_, _<_, _≤_}
 use mathlib.Core.Bool.{true, false, not, cond, _&&_, Bool}
 use mathlib.Core.List.{List, _∷_, _++_}
+use mathlib.Core.Logic.{_≢_}
+use mathlib.Core.Option.{Option, some}
 use mathlib.Core.Path.{_≡_}
 use lib.Dec.{leb, ltb, eqb}
 use lib.ListN.{length, getD, take, drop}
@@ -29,14 +33,14 @@ use lib.Seq.{slice}
 use Rattle.wire.specs.Limits.{maxNumbers, maxFrame, lastRound}
 use Rattle.wire.specs.Numbers.{stored, listed}
 use Rattle.wire.specs.Tray.{Entry, wellFormed, roundOf, entries, place, bytesAt, firstBytes}
-use Rattle.wire.specs.Frame.{kindOf, saidBy, kindSaid, bitSaid, readStored}
+use Rattle.wire.specs.Frame.{Content, kindOf, saidBy, kindSaid, bitSaid, readStored}
 use Rattle.wire.specs.declared.frame.Numbers.{Numbers}
 use Rattle.wire.specs.declared.frame.Read.{Read}
 use Rattle.wire.specs.declared.frame.Read.the-variants.{Valid, Void}
 use Rattle.controller.specs.Lists.{In, countIf}
 use Rattle.controller.specs.State.{View, view, image, sound, undecided, soundList}
 use Rattle.controller.specs.Thirds.{third}
-use Rattle.controller.specs.Received.{senders, heardAfter, readIn, says, count}
+use Rattle.controller.specs.Received.{frameOf, senders, heardAfter, readIn, says, count}
 use Rattle.controller.specs.Rotation.{tally, echoed, candidatesAfter}
 use Rattle.controller.specs.Keys.{counted, RisingKeys, Keyed, numbersIn, reaching, newTo, joinedBy}
 use Rattle.controller.specs.Bit.{bitAdopted, strongAfter, opinion}
@@ -72,9 +76,18 @@ pub record Ready (s : State) (b : List ℕ) (n : Numbers) (f : Firsts) : Type 0 
   pub firsts : (j : ℕ) → j < length (heardAfter (view s) (entries b))
       → bytesAt b (place b (getD (f .at) j 0)) ≡ firstBytes (getD (heardAfter (view s) (entries b)) j 0) (entries b)
 
+abbrev pub contentUnder : State → List ℕ → ℕ → ℕ → Option Content
+contentUnder s b x i = cond (eqb x (s .own)) (some (frameOf (view s))) (readIn (s .round) (bytesAt b (place b i)))
+
 abbrev pub saidUnder : ℕ → ℕ → ℕ → List ℕ → ℕ → ℕ → Read
 saidUnder own round said b x i =
     cond (eqb x own) (Valid (record { round = round; said = saidBy (kindOf round) said })) ((readStored (readIn round (bytesAt b (place b i)))) .read)
+
+pub record Alike (own : ℕ) (b l : List ℕ) (n : ℕ) (f : List ℕ) (j r : ℕ) : Type 0 where
+  pub some : 0 < r
+  pub inside : j + r ≤ n
+  pub same : (i : ℕ) → j < i → i < j + r
+      → (getD l j 0 ≢ own) × (getD l i 0 ≢ own) × (bytesAt b (place b (getD f i 0)) ≡ bytesAt b (place b (getD f j 0)))
 
 abbrev pub saysRead : ℕ → ℕ → Read → Bool
 saysRead k b Void = false

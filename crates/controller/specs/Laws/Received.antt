@@ -13,7 +13,7 @@ use lib.ListN.{length}
 use Rattle.wire.specs.Frame.{Content, content, kindOf, kindSaid, bitSaid, frameBytes, roundFits, writable, maxCount, readStored}
 use Rattle.wire.specs.Laws.Frame.{kind-range, said-kind, said-bit, said-allowed, writable-gives, reads-written, read-writable}
 use Rattle.wire.specs.Limits.{maxNumbers, lastRound}
-use Rattle.wire.specs.Numbers.{rising}
+use Rattle.wire.specs.Numbers.{rising, stored}
 use Rattle.wire.specs.Tray.{Entry, entryCount, sender, entriesFrom, entries, firstBytes}
 use Rattle.wire.specs.declared.frame.FrameRead.{FrameRead}
 use Rattle.controller.specs.Lists.{In, Rising}
@@ -73,6 +73,11 @@ pub unheard-received : (v : View) (es : List Entry) → Sound v → (x : ℕ) �
 unheard-received v es h x out =
     let other : x ≢ v .own = λ e. out (heard-in v es .1 (inr (Memᴰ·cast e (h .hears-itself)))) in
     received-other v es x other ∙ rw (first-none x es (λ i. out (heard-in v es .1 (inl i))))
+
+-- the list of a frame that is read, as it is stored
+pub read-numbers-are : (o : Option Content) → (readStored o) .numbers ≡ stored (listIn o)
+read-numbers-are none = refl
+read-numbers-are (some c) = refl
 
 -- a frame that is read without its list says what it says
 pub read-says-is : (o : Option Content) (k b : ℕ) → saysRead k b ((readStored o) .read) ≡ says k b o

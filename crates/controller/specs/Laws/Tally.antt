@@ -1,33 +1,33 @@
 -- Laws of the work on the tally: the received lists as keys count each number as `tally` does, and the lists that such keys give are the rules'.
-use Prim.Native.Nat.{ℕ, _+_, _*_, _-_, _/_, _%_, _≤_, _<_}
+use Prim.Native.Nat.{ℕ, zero, suc, _+_, _*_, _-_, _/_, _%_, _≤_, _<_}
 use mathlib.Core.Bool.{true, not}
-use mathlib.Core.List.{List, [], _++_, List·Memᴰ·not-nil, Memᴰ·cast}
+use mathlib.Core.List.{List, [], _∷_, List·Memᴰ·head, List·Memᴰ·tail, List·Memᴰ·not-nil, Memᴰ·cast}
 use mathlib.Core.Logic.{_⊎_, inl, inr}
 use mathlib.Core.Option.{Option, some, none}
 use mathlib.Core.Path.{_≡_, refl, sym, ap, _∙_}
 use native.Mathlib.Numerals.{add-one}
 use native.Mathlib.Omega.{arith}
-use borrow.Author.Tests.{leb-true, le-leb, le-ltb, not-true}
-use lib.Dec.{leb, ltb}
-use lib.ListN.{length, getD, set, take, drop, replicate, length-set, drop-of-length-le, List·getD-append}
-use lib.Seq.{drop-cons, take-suc-set}
+use borrow.Author.Tests.{leb-true, le-leb, not-true}
+use lib.Dec.{leb}
+use lib.ListN.{length, getD, set, take, drop, replicate, length-set, drop-of-length-le}
+use lib.Seq.{take-suc-set}
 use Rattle.wire.specs.Frame.{Content, writable}
 use Rattle.wire.specs.Laws.Frame.{writable-gives, writable-count}
-use Rattle.wire.specs.Laws.Numbers.{listed-stored}
 use Rattle.wire.specs.Limits.{maxNumbers}
 use Rattle.wire.specs.Numbers.{stored, listed}
 use Rattle.wire.specs.Tray.{Entry, entries}
-use Rattle.wire.specs.declared.frame.Numbers.{Numbers}
-use Rattle.controller.specs.Lists.{In, mem, countIf, Rising}
+use Rattle.wire.specs.Words.{Below}
+use Rattle.controller.specs.Lists.{In, mem, countIf}
 use Rattle.controller.specs.Keys.{counted, RisingKeys, merged, Slim, Cut, OneRun, keysOf, numbersIn, reaching, newTo, PutsKeys}
 use Rattle.controller.specs.State.{View, view, sound, soundList}
 use Rattle.controller.specs.Received.{heardAfter, received, listIn}
 use Rattle.controller.specs.Rotation.{tally, echoed, candidatesAfter}
 use Rattle.controller.specs.Storage.{Tallies, echoesIn, candidatesIn, SortsOut, GrowsLists}
-use Rattle.controller.specs.Laws.Keys.{counted-append, merged-counts, merged-every, merged-rises, cut-more, keys-length, keys-every, keys-rise, keys-counted, numbers-in, numbers-from, numbers-rise, key-count, counted-some, keep-keys, keep-counted}
-use Rattle.controller.specs.Laws.Lists.{true-or-false, in-mem, out-mem, mem-out, in-or-not, rising-gives, rising-same, rising-place, count-length, count-short, keep-in}
+use Rattle.controller.specs.Laws.Keys.{keys-length, keys-every, keys-rise, keys-counted, numbers-in, numbers-from, numbers-rise, key-count, counted-some, keep-keys, keep-counted}
+use Rattle.controller.specs.Laws.Merge.{counted-append, merged-counts, merged-every, merged-rises, cut-more}
+use Rattle.controller.specs.Laws.Lists.{true-or-false, in-mem, out-mem, mem-out, in-or-not, rising-gives, rising-same, count-length, count-run, keep-in}
 use Rattle.controller.specs.Laws.Thirds.{third-is, two-thirds-is}
-use Rattle.controller.specs.Laws.State.{SoundList, Sound, sound-list-gives, sound-list-test, sound-gives, sound-stored}
+use Rattle.controller.specs.Laws.State.{SoundList, Sound, sound-list-test, sound-gives, sound-stored}
 use Rattle.controller.specs.Laws.Received.{heard-some, received-allowed}
 use Rattle.controller.specs.Laws.Rotation.{echoed-in, echoed-rising, candidates-in, candidates-rising}
 use Rattle.controller.specs.declared.keys.Runs.{Runs}
@@ -48,78 +48,83 @@ list-sound (some c) allowed =
 pub list-at-sound : (v : View) (es : List Entry) → Sound v → (j : ℕ) → SoundList (listAt v es j)
 list-at-sound v es h j = list-sound (received v es (getD (heardAfter v es) j 0)) (received-allowed v es h (getD (heardAfter v es) j 0))
 
--- the numbers of a stored list fit where its places do
-pub listed-small : (l : List ℕ) (n : Numbers) → n ≡ stored l → Rising l → ((i : ℕ) → i < n .len → getD (n .at) i 0 < 4294967296) → (x : ℕ) → In x l → x < 4294967296
-listed-small l n e up small x i =
-    let at = countIf (λ (y : ℕ). ltb y x) l in
-    let h : at < length l = count-short (λ (y : ℕ). ltb y x) x i (le-ltb x x (omega arith)) in
-    let size : n .len ≡ length l = ap (λ (m : Numbers). m .len) e in
-    let here : getD (n .at) at 0 ≡ x =
-    ap (λ (m : Numbers). getD (m .at) at 0) e ∙ List·getD-append l (replicate (maxNumbers - length l) 0) 0 at h ∙ rising-place x l up i in
-    omega (arith, small at (omega arith), here)
+-- a bound on the places is one on the numbers, and on those of the first places
+pub below-in : {k : ℕ} (l : List ℕ) → Below k l → (x : ℕ) → In x l → x < k
+below-in [] small x i = absurd (List·Memᴰ·not-nil i)
+below-in (y ∷ l) small x (List·Memᴰ·head e) = omega (arith, small 0, e)
+below-in (y ∷ l) small x (List·Memᴰ·tail i) = below-in l (λ j. small (suc j)) x i
+
+pub below-take : {k : ℕ} (n : ℕ) (l : List ℕ) → Below k l → Below k (take n l)
+below-take zero l small i = omega (arith, small (length l))
+below-take (suc n) [] small i = small i
+below-take (suc n) (y ∷ l) small zero = small 0
+below-take (suc n) (y ∷ l) small (suc i) = below-take n l (λ j. small (suc j)) i
 
 -- ---- the lists put in, one by one
 
--- the lists of the first j heard are in
-pub record Filling (v : View) (es : List Entry) (keys at : List ℕ) (end j : ℕ) : Type 0 where
-  pub place : end ≤ maxNumbers * j
+-- the lists of the first j heard are in, as n runs
+pub record Filling (v : View) (es : List Entry) (keys at : List ℕ) (end n j : ℕ) : Type 0 where
+  pub few : n ≤ j
+  pub place : end ≤ maxNumbers * n
   pub size : length at ≡ maxNumbers
-  pub cut : Cut (take j at) (take end keys)
+  pub cut : Cut (take n at) (take end keys)
   pub counts : (x : ℕ) → counted x (take end keys) + countIf (λ (y : ℕ). mem x (listIn (received v es y))) (drop j (heardAfter v es)) ≡ tally v es x
 
-pub filling-start : (v : View) (es : List Entry) (keys : List ℕ) → Filling v es keys (replicate maxNumbers 0) 0 0
+pub filling-start : (v : View) (es : List Entry) (keys : List ℕ) → Filling v es keys (replicate maxNumbers 0) 0 0 0
 unfolding tally
-filling-start v es keys = record { place = omega arith; size = refl; cut = refl; counts = λ x. omega arith }
+filling-start v es keys = record { few = omega arith; place = omega arith; size = refl; cut = refl; counts = λ x. omega arith }
 
-module _ (v : View) (es : List Entry) (keys at : List ℕ) (end j : ℕ) (n : Numbers) (f : List ℕ) (r : ℕ)
+-- the c lists from place j on are equal
+module _ (v : View) (es : List Entry) (keys at : List ℕ) (end n j c : ℕ) (f : List ℕ) (r : ℕ)
     (h : Sound v)
-    (lt : j < length (heardAfter v es))
-    (few : length (heardAfter v es) ≤ maxNumbers)
-    (g : Filling v es keys at end j)
-    (is : n ≡ stored (listAt v es j))
-    (puts : PutsKeys n keys f end r)
+    (some : 0 < c)
+    (inside : j + c ≤ length (heardAfter v es))
+    (most : length (heardAfter v es) ≤ maxNumbers)
+    (g : Filling v es keys at end n j)
+    (same : (i : ℕ) → j ≤ i → i < j + c → listAt v es i ≡ listAt v es j)
+    (puts : PutsKeys c (listAt v es j) keys f end r)
   where
-    written : take r f ≡ take end keys ++ keysOf (listAt v es j)
-    written = puts .kept ∙ rw (is, listed-stored (listAt v es j))
+    used : r - end ≡ length (keysOf c (listAt v es j))
+    used = omega (arith, puts .place, keys-length c (listAt v es j))
 
-    used : n .len ≡ length (keysOf (listAt v es j))
-    used = ap (λ (m : Numbers). m .len) is ∙ sym (keys-length (listAt v es j))
-
-    pub filling-more : Filling v es f (set at j (n .len)) r (j + 1)
+    pub filling-more : Filling v es f (set at n (r - end)) r (n + 1) (j + c)
     filling-more =
         let l = listAt v es j in
         let sound = list-at-sound v es h j in
-        let rises : RisingKeys (keysOf l) = keys-rise l (sound .rises) (listed-small l n is (sound .rises) (puts .small)) in
+        let low : c < 128 = omega arith in
+        let rises : RisingKeys (keysOf c l) = keys-rise c low l (sound .rises) (below-in l (puts .small)) in
         record {
-          place = omega (arith, puts .place, g .place, used, keys-length l, sound .short);
+          few = omega (arith, g .few);
+          place = omega (arith, puts .place, g .place, sound .short);
           size = simp length-set (g .size);
           cut =
-              rw (add-one, take-suc-set at j (n .len) (omega (arith, g .size)), written, used)
-              (cut-more (take j at) (take end keys) (keysOf l) (g .cut) rises);
+              rw (add-one, take-suc-set at n (r - end) (omega (arith, g .size, g .few)), puts .kept, used)
+              (cut-more (take n at) (take end keys) (keysOf c l) (g .cut) rises);
           counts =
               λ x.
-              let before = rw (drop-cons (heardAfter v es) j 0 lt) at (g .counts x) in
-              let here = keys-counted x l (sound .rises) in
-              rw (written, counted-append x (take end keys) (keysOf l), add-one)
-              (elim (true-or-false (mem x l)) [ inl t ↦ omega (arith, rw t at here, rw t at before) | inr t ↦ omega (arith, rw t at here, rw t at before) ]);
+              let before = g .counts x in
+              let run = count-run (λ (y : ℕ). mem x (listIn (received v es y))) (heardAfter v es) (mem x l) c j inside (λ i a b. ap (mem x) (same i a b)) in
+              let here = keys-counted c low x l (sound .rises) in
+              rw (puts .kept, counted-append x (take end keys) (keysOf c l))
+              (elim (true-or-false (mem x l)) [ inl t ↦ omega (arith, rw t at here, rw t at run, before) | inr t ↦ omega (arith, rw t at here, rw t at run, before) ]);
         }
 
 tally-few : (v : View) (es : List Entry) (x : ℕ) → tally v es x ≤ length (heardAfter v es)
 unfolding tally
 tally-few v es x = count-length (λ (y : ℕ). mem x (listIn (received v es y))) (heardAfter v es)
 
-pub filling-end : (s : State) (b keys at : List ℕ) (end n : ℕ) → n ≡ length (heardAfter (view s) (entries b)) → n ≤ maxNumbers → maxNumbers * n < length keys
-    → Filling (view s) (entries b) keys at end n → Tallies s b keys (record { len = n; end = end; at = at })
-filling-end s b keys at end n size few room g =
+pub filling-end : (s : State) (b keys at : List ℕ) (end n j : ℕ) → j ≡ length (heardAfter (view s) (entries b)) → j ≤ maxNumbers → maxNumbers * j < length keys
+    → Filling (view s) (entries b) keys at end n j → Tallies s b keys (record { len = n; end = end; at = at })
+filling-end s b keys at end n j size most room g =
     let v = view s in
     let es = entries b in
-    let none : drop n (heardAfter v es) ≡ [] = drop-of-length-le (heardAfter v es) {i = n} (omega arith) in
+    let none : drop j (heardAfter v es) ≡ [] = drop-of-length-le (heardAfter v es) {i = j} (omega arith) in
     let counts : (x : ℕ) → counted x (take end keys) ≡ tally v es x = λ x. omega (arith, rw none at (g .counts x)) in
     record {
       keyed =
           record {
-            few = few;
-            inside = omega (arith, g .place);
+            few = omega (arith, g .few);
+            inside = omega (arith, g .place, g .few);
             cut = g .cut;
             slim = λ x. omega (arith, counts x, tally-few v es x);
           };
@@ -188,14 +193,14 @@ module _ (v : View) (es : List Entry) (l : List ℕ)
     joining : List ℕ
     joining = reaching (2 * length (heardAfter v es)) new
 
-    joining-slim : Slim joining (keysOf (v .candidates))
+    joining-slim : Slim joining (keysOf 1 (v .candidates))
     unfolding joining new
     joining-slim x =
         let n = length (heardAfter v es) in
         let a = keep-counted (λ (y : ℕ). leb (2 * n) (3 * (y % 128))) x new in
         let b = keep-counted (λ (y : ℕ). not (mem (y / 128) (v .candidates))) x (reaching n l) in
         let d = keep-counted (λ (y : ℕ). leb n (3 * (y % 128))) x l in
-        let one = keys-counted x (v .candidates) (h .candidates .rises) in
+        let one = keys-counted 1 (omega arith) x (v .candidates) (h .candidates .rises) in
         elim (true-or-false (mem x (v .candidates))) [
           | inl t ↦ omega (arith, a, b, d, rw t at one, counts x, tally-few v es x)
           | inr t ↦ omega (arith, a, b, d, rw t at one, counts x, tally-few v es x)
@@ -223,24 +228,24 @@ module _ (v : View) (es : List Entry) (l : List ℕ)
         omega (arith, rw (r .2) at (key-count (r .0) joining joining-rises i), heard-some v es h)
 
     all : List ℕ
-    all = merged joining (keysOf (v .candidates))
+    all = merged joining (keysOf 1 (v .candidates))
 
     all-rises : RisingKeys all
     unfolding all
-    all-rises = merged-rises joining (keysOf (v .candidates)) joining-slim joining-rises (keys-rise (v .candidates) (h .candidates .rises) small)
+    all-rises = merged-rises joining (keysOf 1 (v .candidates)) joining-slim joining-rises (keys-rise 1 (omega arith) (v .candidates) (h .candidates .rises) small)
 
     all-gives : {x : ℕ} → In x (numbersIn all) → In x (v .candidates) ⊎ (2 * length (heardAfter v es) ≤ 3 * tally v es x)
     unfolding all
     all-gives {x} i =
         let P : ℕ → Type 0 = λ z. In z (v .candidates) ⊎ (2 * length (heardAfter v es) ≤ 3 * tally v es z) in
         let r = numbers-from all i in
-        let p = merged-every P joining (keysOf (v .candidates)) joining-slim (λ y j. inr (joining-gives j)) (keys-every P (v .candidates) (λ y j. inl j)) (r .0) (r .1) in
+        let p = merged-every P joining (keysOf 1 (v .candidates)) joining-slim (λ y j. inr (joining-gives j)) (keys-every 1 (omega arith) P (v .candidates) (λ y j. inl j)) (r .0) (r .1) in
         rw (r .2) at p
 
-    all-has : {x : ℕ} → 0 < counted x joining + counted x (keysOf (v .candidates)) → In x (numbersIn all)
+    all-has : {x : ℕ} → 0 < counted x joining + counted x (keysOf 1 (v .candidates)) → In x (numbersIn all)
     unfolding all
     all-has {x} pos =
-        let r = counted-some x all (omega (arith, merged-counts joining (keysOf (v .candidates)) joining-slim x)) in
+        let r = counted-some x all (omega (arith, merged-counts joining (keysOf 1 (v .candidates)) joining-slim x)) in
         Memᴰ·cast (sym (r .2)) (numbers-in (r .1))
 
     all-candidates : numbersIn all ≡ candidatesAfter v es
@@ -249,7 +254,7 @@ module _ (v : View) (es : List Entry) (l : List ℕ)
         let n = length (heardAfter v es) in
         let c = v .candidates in
         let old : (x : ℕ) → In x c → In x (numbersIn all) =
-        λ x i. all-has (omega (arith, rw (in-mem i) at (keys-counted x c (h .candidates .rises)))) in
+        λ x i. all-has (omega (arith, rw (in-mem i) at (keys-counted 1 (omega arith) x c (h .candidates .rises)))) in
         rising-same (numbersIn all) (candidatesAfter v es) (numbers-rise all all-rises) (candidates-rising v es (h .candidates .rises))
         (λ x i. candidates-in v es pos .1 (elim (all-gives i) [ inl j ↦ inl j | inr t ↦ inr (two-thirds-is (tally v es x) n .1 t) ]))
         (λ x i. elim (candidates-in v es pos .0 i) [
@@ -267,12 +272,11 @@ module _ (v : View) (es : List Entry) (l : List ℕ)
 
 -- what is sorted out of the one run is what the rules give
 pub sorted-grows : (s : State) (b : List ℕ) {k f : List ℕ} {runs : Runs} {end n : ℕ} {r : Lists} → sound s ≡ true
-    → n ≡ length (heardAfter (view s) (entries b)) → n ≤ maxNumbers → ((i : ℕ) → i < s .candidates .len → getD (s .candidates .at) i 0 < 4294967296)
+    → n ≡ length (heardAfter (view s) (entries b)) → n ≤ maxNumbers → Below 4294967296 (s .candidates .at)
     → Tallies s b k runs → OneRun k runs f end → SortsOut (take end f) (listed (s .candidates)) n r → GrowsLists s b r
 sorted-grows s b {k} {f} {runs} {end} {n} {r} test size few fit all one sorts =
     let h = sound-gives s test in
-    let t = sound-list-gives (s .candidates) (candidates-tests s test) in
-    let small = listed-small (listed (s .candidates)) (s .candidates) (sym (t .back)) (t .list .rises) fit in
+    let small = below-in (listed (s .candidates)) (below-take (s .candidates .len) (s .candidates .at) fit) in
     let counts : (x : ℕ) → counted x (take end f) ≡ tally (view s) (entries b) x = λ x. one .counts x ∙ all .counts x in
     let echoes = rw (← size) at (sorted-echoes (view s) (entries b) (take end f) h (omega arith) small (one .rises) counts) in
     let candidates = rw (← size) at (sorted-candidates (view s) (entries b) (take end f) h (omega arith) small (one .rises) counts) in

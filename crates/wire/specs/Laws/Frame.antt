@@ -1,5 +1,5 @@
 -- Laws of frames.
-use Prim.Native.Nat.{ℕ, zero, suc, _+_, _*_, _%_, _≤_}
+use Prim.Native.Nat.{ℕ, zero, suc, _+_, _*_, _%_, _≤_, _<_}
 use mathlib.Core.Bool.{Bool, true, false, cond, _&&_, and-eq-true-iff}
 use mathlib.Core.List.{List, [], _∷_, _++_, append-nil}
 use mathlib.Core.Option.{Option, some, none}
@@ -17,8 +17,9 @@ use Rattle.wire.specs.declared.frame.Choice.the-variants.{Bit, None}
 use Rattle.wire.specs.declared.frame.Said.{Said}
 use Rattle.wire.specs.declared.frame.Said.the-variants.{Init, Roster, Value, Proposal, Opinion}
 use Rattle.wire.specs.declared.frame.FrameRead.{FrameRead}
+use Rattle.wire.specs.declared.frame.Numbers.{Numbers}
 use Rattle.wire.specs.Words.{wordAt, wordsAt, wordsBytes, Below}
-use Rattle.wire.specs.Numbers.{rising}
+use Rattle.wire.specs.Numbers.{rising, stored}
 use Rattle.wire.specs.Laws.Numbers.{listed-stored}
 use Rattle.wire.specs.Laws.Words.{half-back, word-back, words-behind, words-back, words-length, byte-drop, half-drop, word-drop, words-drop}
 use Rattle.wire.specs.Refusal.{firstFailed}
@@ -66,6 +67,24 @@ content-is s t = rw (read-refusal-is s t) (pick (fits s t))
     pick : (a : Bool) → cond (eqb (cond a 0 11) 0) (some (contentOf s t)) none ≡ cond a (some (contentOf s t)) none
     pick true = refl
     pick false = refl
+
+-- the list that is read, by whether the bytes fit
+abbrev listRead : List ℕ → ℕ → Bool → Numbers
+listRead s t f = (readStored (cond f (some (contentOf s t)) none)) .numbers
+
+-- the numbers of bytes that are read lie one behind the other from the header's end on, and the bytes hold them all
+pub numbers-lie : (s : List ℕ) (t n : ℕ) → n ≡ (readStored (content s t)) .numbers .len
+    → ((readStored (content s t)) .numbers ≡ stored (wordsAt s frameHeader n)) × (0 < n → frameHeader + numberWidth * n ≤ length s)
+numbers-lie s t n e = rw (content-is s t) (pick (lengthFits s) (headFits s t) (bodyFits s t) refl (rw (content-is s t) at e))
+  where
+    pick : (a b d : Bool) → lengthFits s ≡ a → n ≡ (listRead s t (a && b && d)) .len
+        → (listRead s t (a && b && d) ≡ stored (wordsAt s frameHeader n)) × (0 < n → frameHeader + numberWidth * n ≤ length s)
+    pick false b d h e = (rw e, λ l. absurd (omega arith))
+    pick true false d h e = (rw e, λ l. absurd (omega arith))
+    pick true true false h e = (rw e, λ l. absurd (omega arith))
+    pick true true true h e =
+        let same : n ≡ countOf s = e ∙ words-length s frameHeader (countOf s) in
+        (rw same, λ l. omega (arith, same, length-fits s h))
 
 -- the answer alone gives the whole promise
 pub frame-reads : (s : List ℕ) (t : ℕ) (r : FrameRead) → r ≡ readStored (content s t) → FrameReads s t r

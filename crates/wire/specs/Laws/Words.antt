@@ -21,6 +21,12 @@ words-step s b i n h =
     let f : b + 4 * i + 4 ≡ b + 4 * (i + 1) = omega arith in
     rw (e, f)
 
+-- numbers made of bytes fit four of them
+pub words-below : (s : List ℕ) → Below 256 s → (at n : ℕ) → Below 4294967296 (wordsAt s at n)
+words-below s b at zero i = omega arith
+words-below s b at (suc n) zero = omega (arith, b at, b (at + 1), b (at + 2), b (at + 3))
+words-below s b at (suc n) (suc i) = words-below s b (at + 4) n i
+
 -- ---- written, then read
 
 pub half-back : (x : ℕ) → x / 256 * 256 + x % 256 ≡ x

@@ -8,7 +8,7 @@ use borrow.Author.Needs.{needs}
 use denote.Ref.{now}
 use lib.ListN.{length, getD, take, length-set}
 use lib.Seq.{slice, slice-cons, slice-empty}
-use Rattle.controller.specs.Laws.Keys.{one-more}
+use Rattle.controller.specs.Laws.Merge.{one-more}
 use Rattle.controller.proofs.keys.copy.Statement.{statement}
 use Rattle.controller.proofs.keys.copy.Tie as tie
 

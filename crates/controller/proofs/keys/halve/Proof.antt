@@ -6,7 +6,7 @@ use borrow.Author.Needs.{needs}
 use denote.Ref.{now}
 use lib.ListN.{length}
 use Rattle.wire.specs.Limits.{maxNumbers}
-use Rattle.controller.specs.Laws.Keys.{Halving, pair-runs, halving-start, halving-pair, halving-mergeable, halving-more, halving-end}
+use Rattle.controller.specs.Laws.Merge.{Halving, pair-runs, halving-start, halving-pair, halving-mergeable, halving-more, halving-end}
 use Rattle.controller.proofs.keys.halve.Statement.{statement}
 use Rattle.controller.proofs.keys.halve.Tie as tie
 

@@ -15,7 +15,7 @@ use lib.Dec.{ltb}
 use lib.ListN.{length, getD, set, take, length-set}
 use lib.Seq.{slice, slice-cons}
 use Rattle.controller.specs.Keys.{merged, Slim, Mergeable}
-use Rattle.controller.specs.Laws.Keys.{slice-none, merged-none, merged-all, merged-both, merged-first, merged-second, slim-rest, slim-heads, one-more}
+use Rattle.controller.specs.Laws.Merge.{slice-none, merged-none, merged-all, merged-both, merged-first, merged-second, slim-rest, slim-heads, one-more}
 use Rattle.controller.proofs.keys.merge.Statement.{statement}
 use Rattle.controller.proofs.keys.merge.Tie as tie
 

@@ -5,7 +5,7 @@ use native.Mathlib.Omega.{arith}
 use borrow.Author.Needs.{needs}
 use lib.ListN.{length, take, length-take}
 use Rattle.controller.specs.Keys.{counted, Keyed}
-use Rattle.controller.specs.Laws.Keys.{cut-one}
+use Rattle.controller.specs.Laws.Merge.{cut-one}
 use Rattle.controller.proofs.keys.merge_all.Statement.{statement}
 use Rattle.controller.proofs.keys.merge_all.Tie as tie
 

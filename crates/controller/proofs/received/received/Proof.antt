@@ -2,13 +2,12 @@
 use Prim.Native.Nat.{ℕ, _<_}
 use mathlib.Core.List.{List}
 use mathlib.Core.Option.{some}
-use mathlib.Core.Path.{_≡_, sym, ap, _∙_}
+use mathlib.Core.Path.{_≡_, ap, _∙_}
 use native.Mathlib.Omega.{arith}
 use borrow.Author.Needs.{needs}
 use borrow.Author.Tests.{eq-eqb, ne-eqb}
-use lib.ListN.{length, getD}
-use lib.Seq.{getD-take}
-use Rattle.controller.specs.Laws.Ready.{ready-listed, ready-used, ready-few}
+use lib.ListN.{getD}
+use Rattle.controller.specs.Laws.Ready.{ready-few, ready-content}
 use Rattle.controller.specs.Received.{readIn, received, frameOf}
 use Rattle.controller.specs.State.{view}
 use Rattle.controller.specs.Storage.{Ready}
@@ -16,29 +15,19 @@ use Rattle.controller.specs.declared.received.Firsts.{Firsts}
 use Rattle.controller.specs.declared.state.State.{State}
 use Rattle.wire.specs.Frame.{readStored}
 use Rattle.wire.specs.Numbers.{listed}
-use Rattle.wire.specs.Tray.{entries, place, bytesAt, firstBytes}
+use Rattle.wire.specs.Tray.{entries, place, bytesAt}
 use Rattle.wire.specs.declared.frame.FrameRead.{FrameRead}
 use Rattle.wire.specs.declared.frame.Numbers.{Numbers}
 use Rattle.controller.proofs.received.received.Statement.{statement}
 use Rattle.controller.proofs.received.received.Tie as tie
 
 module _ (s : State) (b : List ℕ) (n : Numbers) (f : Firsts) (j : ℕ) (r : FrameRead) (pre : Ready s b n f × (j < n .len)) where
-  copied : getD (listed n) j 0 ≡ getD (n .at) j 0
-  copied = getD-take (n .len) (n .at) j 0 (pre .1)
-
   own : getD (n .at) j 0 ≡ s .own → r ≡ readStored (some (frameOf (view s))) → r ≡ readStored (received (view s) (entries b) (getD (listed n) j 0))
-  unfolding received
-  own e answer = rw (eq-eqb (getD (listed n) j 0) (s .own) (copied ∙ e)) answer
-
-  first : bytesAt b (place b (getD (f .at) j 0)) ≡ firstBytes (getD (listed n) j 0) (entries b)
-  first =
-      let listed = ready-listed (pre .0) in
-      rw listed (pre .0 .firsts j (omega (arith, pre .1, ready-used (pre .0), ap length listed)))
+  own e answer = answer ∙ ap readStored (rw (eq-eqb (getD (n .at) j 0) (s .own) e) at (ready-content (pre .0) j (pre .1)))
 
   other : (getD (n .at) j 0 ≡ s .own → ⊥) → r ≡ readStored (readIn (s .round) (bytesAt b (place b (getD (f .at) j 0))))
       → r ≡ readStored (received (view s) (entries b) (getD (listed n) j 0))
-  unfolding received
-  other e answer = rw (ne-eqb (getD (listed n) j 0) (s .own) (λ d. e (sym copied ∙ d)), ← first) answer
+  other e answer = answer ∙ ap readStored (rw (ne-eqb (getD (n .at) j 0) (s .own) e) at (ready-content (pre .0) j (pre .1)))
 
 mul-x : tie.Need-mul-x
 mul-x c = omega (arith, c .before .pre .1, ready-few (c .before .pre .0))

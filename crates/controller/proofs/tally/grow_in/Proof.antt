@@ -45,7 +45,7 @@ returns : tie.Need-returns
 returns c =
     let a = c .before .before .before .before .before .before .before .before .before .before .before .before .before .before .before .before .before .before .before .before .before .before .args in
     let ready = c .before .before .before .before .before .before .before .before .before .before .before .before .before .before .before .before .before .before .before .before .before .before .pre .0 in
-    sorted-grows (a .state) (now (a .tray)) (ready .sound) (ready-size ready) (ready-few ready) (λ i lt. let f = candidate-fits (c .before .before .before .before .before .before .before .before .before .before .before .before .before .before .before .before .before .before .before .before .before .before) i in omega arith)
+    sorted-grows (a .state) (now (a .tray)) (ready .sound) (ready-size ready) (ready-few ready) (λ i. let f = candidate-fits (c .before .before .before .before .before .before .before .before .before .before .before .before .before .before .before .before .before .before .before .before .before .before) i in omega arith)
     (c .before .before .before .before .before .before .before .before .before .before .before .before .before .before .before .before .before .fill .ensures) (c .before .before .before .before .before .before .before .before .before .before .before .before .merge-all .ensures) (c .before .before .before .before .sort-out .ensures)
 
 pub grow-in-spec : {M : Type 1} → statement M

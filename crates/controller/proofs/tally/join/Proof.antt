@@ -12,11 +12,12 @@ use Rattle.wire.specs.Numbers.{stored, listed}
 use Rattle.wire.specs.declared.frame.Numbers.{Numbers}
 use Rattle.controller.specs.Lists.{mem}
 use Rattle.controller.specs.Keys.{RisingKeys, merged, Slim, Mergeable, Merges, keysOf, numbersIn, joinedBy, PutsKeys, Joinable}
-use Rattle.controller.specs.Laws.Keys.{merged-rises, keys-rise, keys-counted, numbers-length}
+use Rattle.controller.specs.Laws.Keys.{keys-rise, keys-counted, numbers-length}
+use Rattle.controller.specs.Laws.Merge.{merged-rises}
 use Rattle.controller.specs.Laws.Lists.{true-or-false}
 use Rattle.controller.specs.Laws.State.{ListTests, sound-list-gives}
 use Rattle.controller.specs.Laws.Storage.{grown-fits, grown-full}
-use Rattle.controller.specs.Laws.Tally.{listed-small}
+use Rattle.controller.specs.Laws.Tally.{below-in}
 use borrow.Author.Needs.{needs}
 use Rattle.controller.proofs.tally.join.Statement.{statement}
 use Rattle.controller.proofs.tally.join.Tie as tie
@@ -24,7 +25,7 @@ use Rattle.controller.proofs.tally.join.Tie as tie
 module _ (a b : List ℕ) (end : ℕ) (n : Numbers) (f : List ℕ) (next : ℕ)
     (pre : Joinable a b end n)
     (same : length f ≡ length a)
-    (puts : PutsKeys n a f end next)
+    (puts : PutsKeys 1 (listed n) a f end next)
   where
     tests : ListTests n
     tests = sound-list-gives n (pre .list)
@@ -36,14 +37,14 @@ module _ (a b : List ℕ) (end : ℕ) (n : Numbers) (f : List ℕ) (next : ℕ)
     long = omega (arith, puts .place)
 
     one : slice 0 end f ≡ take end a
-    one = sym (take-take end next f long) ∙ ap (take end) (puts .kept) ∙ take-at (take end a) (keysOf (listed n)) end front
+    one = sym (take-take end next f long) ∙ ap (take end) (puts .kept) ∙ take-at (take end a) (keysOf 1 (listed n)) end front
 
-    other : slice end next f ≡ keysOf (listed n)
-    other = rw (puts .kept) (drop-at (take end a) (keysOf (listed n)) end front)
+    other : slice end next f ≡ keysOf 1 (listed n)
+    other = rw (puts .kept) (drop-at (take end a) (keysOf 1 (listed n)) end front)
 
-    slim : Slim (take end a) (keysOf (listed n))
+    slim : Slim (take end a) (keysOf 1 (listed n))
     slim x =
-        let c = keys-counted x (listed n) (tests .list .rises) in
+        let c = keys-counted 1 (omega arith) x (listed n) (tests .list .rises) in
         elim (true-or-false (mem x (listed n))) [ inl t ↦ omega (arith, pre .slim x, rw t at c) | inr t ↦ omega (arith, pre .slim x, rw t at c) ]
 
     mergeable : Mergeable f b 0 end next 0
@@ -57,26 +58,26 @@ module _ (a b : List ℕ) (end : ℕ) (n : Numbers) (f : List ℕ) (next : ℕ)
         }
 
     module _ (d : List ℕ) (r : ℕ) (merges : Merges f b d 0 end next 0 r) where
-      all : take r d ≡ merged (take end a) (keysOf (listed n))
+      all : take r d ≡ merged (take end a) (keysOf 1 (listed n))
       all = merges .kept ∙ rw (one, other)
 
       rises : RisingKeys (take r d)
       rises =
           rw all
-          (merged-rises (take end a) (keysOf (listed n)) slim (pre .rises)
-          (keys-rise (listed n) (tests .list .rises) (listed-small (listed n) n (sym (tests .back)) (tests .list .rises) (puts .small))))
+          (merged-rises (take end a) (keysOf 1 (listed n)) slim (pre .rises)
+          (keys-rise 1 (omega arith) (listed n) (tests .list .rises) (below-in (listed n) (puts .small))))
 
       inside : length d ≡ length b → r ≤ length d
       inside e = omega (arith, merges .short, mergeable .inside, pre .same)
 
       size : length d ≡ length b → length (joinedBy (take end a) (listed n)) ≡ r
-      size e = numbers-length (merged (take end a) (keysOf (listed n))) ∙ sym (ap length all) ∙ length-take-le r d (inside e)
+      size e = numbers-length (merged (take end a) (keysOf 1 (listed n))) ∙ sym (ap length all) ∙ length-take-le r d (inside e)
 
 put-keys-requires : tie.Need-put-keys-requires
 put-keys-requires c κs =
     let pre = c .before .before .before .pre in
     let t = sound-list-gives (c .before .before .before .args .list) (pre .list) in
-    (omega (arith, t .used, t .list .short), omega (arith, t .used, t .list .short, pre .few, pre .room))
+    (omega (arith, t .used, t .list .short), omega arith, omega (arith, t .used, t .list .short, pre .few, pre .room))
 
 merge-requires : tie.Need-merge-requires
 merge-requires c κs =

@@ -12,7 +12,8 @@ use Rattle.wire.specs.Numbers.{listed}
 use Rattle.controller.specs.Lists.{In, mem}
 use Rattle.controller.specs.Keys.{RisingKeys}
 use Rattle.controller.specs.Storage.{below}
-use Rattle.controller.specs.Laws.Keys.{slice-set, Keeping, keeping-first, keeping-drops, keeping-keeps, keeping-end}
+use Rattle.controller.specs.Laws.Keys.{Keeping, keeping-first, keeping-drops, keeping-keeps, keeping-end}
+use Rattle.controller.specs.Laws.Merge.{slice-set}
 use Rattle.controller.specs.Laws.State.{sound-list-gives}
 use Rattle.controller.specs.Laws.Storage.{below-more}
 use Rattle.controller.proofs.tally.keep_new.Statement.{statement}

@@ -8,20 +8,21 @@ use borrow.Author.Needs.{needs}
 use mir.Syntax.{w32}
 use mir.Val.{Fits}
 use lib.ListN.{length, getD, take, drop}
-use lib.Seq.{slice-cons}
+use lib.Seq.{slice-cons, length-take-le}
 use Rattle.wire.specs.Limits.{maxNumbers}
 use Rattle.wire.specs.Numbers.{listed}
 use Rattle.controller.specs.Keys.{keysOf}
-use Rattle.controller.specs.Laws.Keys.{one-more, slice-none}
+use Rattle.controller.specs.Laws.Merge.{one-more, slice-none}
+use Rattle.controller.specs.Laws.Tally.{below-take}
 use Rattle.controller.proofs.tally.put_keys.Statement.{statement}
 use Rattle.controller.proofs.tally.put_keys.Tie as tie
 
 abbrev Inv-loop : tie.InvT-loop
-Inv-loop keys₀ to list len k₀ i₀ keys k i =
-    (i ≤ len) × (k ≡ to + i) × (length keys ≡ length keys₀) × (take k keys ++ keysOf (drop i (listed list)) ≡ take to keys₀ ++ keysOf (listed list))
+Inv-loop count keys₀ to list len k₀ i₀ keys k i =
+    (i ≤ len) × (k ≡ to + i) × (length keys ≡ length keys₀) × (take k keys ++ keysOf count (drop i (listed list)) ≡ take to keys₀ ++ keysOf count (listed list))
 
 abbrev μ-loop : tie.MeasureT-loop
-μ-loop keys₀ to list len k₀ i₀ keys k i = len - i
+μ-loop count keys₀ to list len k₀ i₀ keys k i = len - i
 
 loop-holds : tie.Need-loop-holds Inv-loop μ-loop
 loop-holds c = (search needs, search needs, refl, refl)
@@ -76,9 +77,9 @@ returns c =
     let v = c .before .loop in
     let n = c .before .before .args .t1 in
     record {
-      place = search needs;
+      place = let size : length (n .at) ≡ maxNumbers = search needs in omega (arith, length-take-le (n .len) (n .at) (omega arith));
       kept = sym (append-nil (take (v .k) (v .keys))) ∙ (rw (slice-none (v .i) (n .len) (n .at) (c .loop-test .left)) at (v .inv .3));
-      small = λ i h. let fits : Fits w32 (getD (n .at) i 0) = search needs in omega arith;
+      small = below-take (n .len) (n .at) (λ i. let fits : Fits w32 (getD (n .at) i 0) = search needs in omega arith);
     }
 
 pub put-keys-spec : {M : Type 1} → statement M
