@@ -7,8 +7,8 @@
 --     Merges s d f a b e t r   the places of f up to r are those of d up to t, and then the two parts merged
 --     lengthAt l n j           the length of run j of n, whose lengths are in l; 0 where there is none
 --     Cut ns l                 l is runs of the lengths ns, one behind the other, each rising
---     Keyed s r                the first keys of s are the runs r, and no number is counted more than 64 times
---     Halves s r d h           the runs h of d count as the runs r of s do, and are half as many
+--     Keyed s r at             the first keys of s are the runs r, of the lengths at, and no number is counted more than 64 times
+--     Halves s r d h at        the runs h of d, of the lengths at, count as the runs r of s do, and are half as many
 --     OneRun s r f n           the first n keys of f rise, and count as the runs r of s do
 --     keysOf c l               the keys of the numbers l, each with the count c
 --     numbersIn l              the numbers of the keys l
@@ -71,14 +71,14 @@ abbrev pub Cut : List ℕ → List ℕ → Type 0
 Cut [] l = l ≡ []
 Cut (n ∷ ns) l = (n ≤ length l) × RisingKeys (take n l) × Cut ns (drop n l)
 
-pub record Keyed (s : List ℕ) (r : Runs) : Type 0 where
+pub record Keyed (s : List ℕ) (r : Runs) (at : List ℕ) : Type 0 where
   pub few : r .len ≤ maxNumbers
   pub inside : r .end < length s
-  pub cut : Cut (take (r .len) (r .at)) (take (r .end) s)
+  pub cut : Cut (take (r .len) at) (take (r .end) s)
   pub slim : (x : ℕ) → counted x (take (r .end) s) ≤ maxNumbers
 
-pub record Halves (s : List ℕ) (r : Runs) (d : List ℕ) (h : Runs) : Type 0 where
-  pub keyed : Keyed d h
+pub record Halves (s : List ℕ) (r : Runs) (d : List ℕ) (h : Runs) (at : List ℕ) : Type 0 where
+  pub keyed : Keyed d h at
   pub half : h .len + h .len ≤ r .len + 1
   pub counts : (x : ℕ) → counted x (take (h .end) d) ≡ counted x (take (r .end) s)
 
@@ -114,8 +114,8 @@ pub record Keeps (m f : List ℕ) (e r : ℕ) : Type 0 where
   pub short : r ≤ e
 
 pub record Joinable (a b : List ℕ) (end : ℕ) (n : Numbers) : Type 0 where
-  pub few : end ≤ maxNumbers
-  pub room : maxNumbers + maxNumbers < length a
+  pub few : end + n .len ≤ maxNumbers
+  pub room : maxNumbers < length a
   pub same : length b ≡ length a
   pub rises : RisingKeys (take end a)
   pub slim : (x : ℕ) → counted x (take end a) ≤ maxNumbers

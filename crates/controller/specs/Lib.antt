@@ -2,6 +2,7 @@
 pub mod Lists
 pub mod Thirds
 pub mod State
+pub mod Fields
 pub mod Received
 pub mod Rotation
 pub mod Bit

@@ -1,64 +1,82 @@
 // The bit: what is taken from the king, proposed and adopted.
-ghost use mathlib.Core.Bool.{cond, _&&_};
+ghost use mathlib.Core.Bool.{cond, true, _&&_};
+ghost use mathlib.Core.List.{List};
 ghost use mathlib.Core.Path.{_≡_};
-ghost use Prim.Native.Nat.{_≤_};
+ghost use Prim.Native.Nat.{ℕ, _+_, _≤_};
 ghost use lib.Dec.{eqb};
+ghost use lib.ListN.{length};
+ghost use Rattle.wire.specs.Frame.{kindOf};
 ghost use Rattle.wire.specs.Limits.{maxNumbers};
-ghost use Rattle.wire.specs.Tray.{entries};
-ghost use Rattle.controller.specs.State.{view, undecided};
+ghost use Rattle.wire.specs.Tray.{Entry, entries};
+ghost use Rattle.controller.specs.Fields.{stateOf, bare};
+ghost use Rattle.controller.specs.State.{view, undecided, soundList};
+ghost use Rattle.controller.specs.Received.{heardAfter};
 ghost use Rattle.controller.specs.Thirds.{twoThirds};
-ghost use Rattle.controller.specs.Bit.{kingOpinion, bitTaken, proposal};
-ghost use Rattle.controller.specs.Storage.{Ready, adoptedFrom, TurnsBit};
-use crate::lists::has;
-use crate::lists::place_of;
-use crate::received::Firsts;
-use crate::received::count_bits;
-use crate::received::read_opinion;
-use crate::received::received;
-use crate::state::State;
-use wire::frame::Numbers;
+ghost use Rattle.controller.specs.Bit.{kingOpinion, bitTaken};
+ghost use Rattle.controller.specs.Storage.{Ready, CountsBits, proposedFrom, adoptedFrom, TurnsBit};
+use crate::lists::has_at;
+use crate::lists::place_in;
+use crate::received::Counts;
+use crate::received::received_bit;
+use crate::state::Fields;
+use wire::limits::MAX_NUMBERS;
 
 // The opinion of the state's king, 2 where it has none. A king that is not heard sent nothing.
-fn king_opinion(state: State, tray: &[u8], heard: Numbers, firsts: Firsts) -> u8
-    requires { ⌜ Ready state (now tray) heard firsts ⌝ }
-    ensures { λ r. ⌜ r ≡ kingOpinion (view state) (entries (now (tray .entry))) ⌝ }
+fn king_opinion(
+    fields: Fields,
+    heard: &[u32; MAX_NUMBERS],
+    tray: &[u8],
+    firsts: &[usize; MAX_NUMBERS],
+) -> u8
+    requires { ⌜ soundList (record { len = fields .heard; at = now heard }) ≡ true ⌝ }
+    ensures { λ r. ⌜ ((c e : List ℕ) → Ready (stateOf fields (now (heard .entry)) c e) (now (tray .entry)) (now (firsts .entry)) → kindOf (fields .round) ≡ 5 → r ≡ kingOpinion (view (stateOf fields (now (heard .entry)) c e)) (entries (now (tray .entry)))) ⌝ }
 {
-    let king = state.king;
-    if has(heard, king) {
-        let frame = received(state, tray, heard, firsts, place_of(heard, king));
-        let read = frame.read;
-        read_opinion(read)
+    let king = fields.king;
+    let place = place_in(heard, fields.heard, king);
+    if has_at(heard, fields.heard, place, king) {
+        let bit = received_bit(
+            fields.own,
+            fields.round,
+            fields.said,
+            tray,
+            king,
+            firsts[place],
+        );
+        if bit <= 1 { bit } else { 2 }
     } else {
         2
     }
 }
 
 // (a): the own bit, or the king's opinion.
-pub(crate) fn bit_taken(state: State, tray: &[u8], heard: Numbers, firsts: Firsts) -> u8
-    requires { ⌜ Ready state (now tray) heard firsts ⌝ }
-    ensures { λ r. ⌜ r ≡ bitTaken (view state) (entries (now (tray .entry))) ⌝ }
+pub(crate) fn bit_taken(
+    fields: Fields,
+    heard: &[u32; MAX_NUMBERS],
+    tray: &[u8],
+    firsts: &[usize; MAX_NUMBERS],
+) -> u8
+    requires { ⌜ soundList (record { len = fields .heard; at = now heard }) ≡ true ⌝ }
+    ensures { λ r. ⌜ ((c e : List ℕ) → Ready (stateOf fields (now (heard .entry)) c e) (now (tray .entry)) (now (firsts .entry)) → kindOf (fields .round + 1) ≡ 3 → r ≡ bitTaken (view (stateOf fields (now (heard .entry)) c e)) (entries (now (tray .entry)))) ⌝ }
 {
-    let bit = state.bit;
-    if state.round < 3 {
+    let bit = fields.bit;
+    if fields.round < 3 {
         return bit;
     }
-    if state.decision != 2 {
+    if fields.decision != 2 {
         return bit;
     }
-    if state.strong != 0 {
+    if fields.strong != 0 {
         return bit;
     }
-    let opinion = king_opinion(state, tray, heard, firsts);
+    let opinion = king_opinion(fields, heard, tray, firsts);
     if opinion <= 1 { opinion } else { bit }
 }
 
-// The bit whose values reach two thirds, else 2.
-pub(crate) fn proposal(state: State, tray: &[u8], heard: Numbers, firsts: Firsts) -> u8
-    requires { ⌜ Ready state (now tray) heard firsts ⌝ }
-    ensures { λ r. ⌜ r ≡ proposal (view state) (entries (now (tray .entry))) ⌝ }
+// The bit whose values reach two thirds of `h`, else 2.
+pub(crate) fn proposal(counts: Counts, h: usize) -> u8
+    requires { ⌜ (counts .zeros ≤ maxNumbers) × (counts .ones ≤ maxNumbers) × (h ≤ maxNumbers) ⌝ }
+    ensures { λ r. ⌜ r ≡ proposedFrom (counts .zeros) (counts .ones) h ⌝ }
 {
-    let h = heard.len;
-    let counts = count_bits(state, tray, heard, firsts, 3);
     if 2 * h <= 3 * counts.zeros {
         0
     } else if 2 * h <= 3 * counts.ones {
@@ -76,12 +94,12 @@ pub(crate) struct Turn {
 }
 
 // The own bit, or the only bit whose proposals, `zeros` and `ones` among `h`, reach a third.
-fn adopted(state: State, zeros: usize, ones: usize, h: usize) -> u8
+fn adopted(fields: Fields, zeros: usize, ones: usize, h: usize) -> u8
     requires { ⌜ (zeros ≤ maxNumbers) × (ones ≤ maxNumbers) ⌝ }
-    ensures { λ r. ⌜ r ≡ adoptedFrom (view state) zeros ones h ⌝ }
+    ensures { λ r. ⌜ r ≡ adoptedFrom (bare fields) zeros ones h ⌝ }
 {
-    let bit = state.bit;
-    if state.decision != 2 {
+    let bit = fields.bit;
+    if fields.decision != 2 {
         return bit;
     }
     if h <= 3 * zeros {
@@ -102,25 +120,24 @@ fn strong_of(count: usize, h: usize) -> u8
 }
 
 // The bit, where the controller is undecided and the king is oneself; else 2.
-fn opinion_of(state: State, bit: u8) -> u8
-    ensures { λ r. ⌜ r ≡ cond (undecided (view state) && eqb (state .king) (state .own)) bit 2 ⌝ }
+fn opinion_of(fields: Fields, bit: u8) -> u8
+    ensures { λ r. ⌜ r ≡ cond (undecided (bare fields) && eqb (fields .king) (fields .own)) bit 2 ⌝ }
 {
-    if state.decision != 2 {
+    if fields.decision != 2 {
         return 2;
     }
-    if state.king == state.own { bit } else { 2 }
+    if fields.king == fields.own { bit } else { 2 }
 }
 
-pub(crate) fn spoken(state: State, tray: &[u8], heard: Numbers, firsts: Firsts) -> Turn
-    requires { ⌜ Ready state (now tray) heard firsts ⌝ }
-    ensures { λ r. ⌜ TurnsBit (view state) (entries (now (tray .entry))) r ⌝ }
+// What the counts of proposals among `h` make of the bit.
+pub(crate) fn spoken(fields: Fields, counts: Counts, h: usize) -> Turn
+    requires { ⌜ (counts .zeros ≤ maxNumbers) × (counts .ones ≤ maxNumbers) × (h ≤ maxNumbers) ⌝ }
+    ensures { λ r. ⌜ ((l c e : List ℕ) (es : List Entry) → CountsBits 4 (view (stateOf fields l c e)) es counts → h ≡ length (heardAfter (view (stateOf fields l c e)) es) → TurnsBit (view (stateOf fields l c e)) es r) ⌝ }
 {
-    let h = heard.len;
-    let counts = count_bits(state, tray, heard, firsts, 4);
     let zeros = counts.zeros;
     let ones = counts.ones;
-    let bit = adopted(state, zeros, ones, h);
-    let said = opinion_of(state, bit);
+    let bit = adopted(fields, zeros, ones, h);
+    let said = opinion_of(fields, bit);
     if bit == 0 {
         Turn {
             bit,

@@ -11,11 +11,10 @@ ghost use Rattle.wire.specs.Limits.{maxNumbers};
 ghost use Rattle.controller.specs.Keys.{lengthAt, Mergeable, Merges, Keyed, Halves, OneRun};
 use wire::limits::MAX_NUMBERS;
 
-// Runs of keys that stand one behind the other: how many, the place behind the last, and the length of each. A run's numbers rise.
+// Runs of keys that stand one behind the other: how many, and the place behind the last. A run's numbers rise. The length of each is lent beside them.
 pub(crate) struct Runs {
     pub len: usize,
     pub end: usize,
-    pub at: [usize; MAX_NUMBERS],
 }
 
 // `a` where `x` is below `y`, else `b`. A choice of its own, so that it costs no jump.
@@ -86,44 +85,50 @@ fn length_at(lens: &[usize; MAX_NUMBERS], len: usize, j: usize) -> usize
     if j < len { lens[j] } else { 0 }
 }
 
-// Merges the runs two by two into `dst`.
-fn halve(src: &[u64], runs: Runs, dst: &mut [u64]) -> Runs
-    requires { ⌜ Keyed (now src) runs × (length (now dst) ≡ length (now src)) ⌝ }
-    ensures { λ r. ⌜ Halves (now (src .entry)) runs (now (dst .exit)) r ⌝ }
+// Merges the runs two by two into `dst`, and puts the lengths of those that come of it into `halves`.
+fn halve(
+    src: &[u64],
+    lens: &[usize; MAX_NUMBERS],
+    runs: Runs,
+    dst: &mut [u64],
+    halves: &mut [usize; MAX_NUMBERS],
+) -> Runs
+    requires { ⌜ Keyed (now src) runs (now lens) × (length (now dst) ≡ length (now src)) ⌝ }
+    ensures { λ r. ⌜ Halves (now (src .entry)) runs (now (dst .exit)) r (now (halves .exit)) ⌝ }
 {
-    let lens = runs.at;
-    let mut at = [0; MAX_NUMBERS];
     let mut from = 0;
     let mut to = 0;
     let mut i = 0;
     let mut j = 0;
     while j < runs.len {
         let b = from + lens[j];
-        let e = b + length_at(&lens, runs.len, j + 1);
+        let e = b + length_at(lens, runs.len, j + 1);
         let next = merge(src, from, b, e, dst, to);
-        at[i] = next - to;
+        halves[i] = next - to;
         from = e;
         to = next;
         i += 1;
         j += 2;
     }
-    Runs {
-        len: i,
-        end: to,
-        at,
-    }
+    Runs { len: i, end: to }
 }
 
-// Merges all runs of `a` into one, and returns the place behind it. `b` is room to work in.
-pub(crate) fn merge_all(a: &mut [u64], b: &mut [u64], runs: Runs) -> usize
-    requires { ⌜ Keyed (now a) runs × (length (now b) ≡ length (now a)) ⌝ }
+// Merges all runs of `a`, whose lengths are in `lens`, into one, and returns the place behind it. `b` is room to work in.
+pub(crate) fn merge_all(
+    a: &mut [u64],
+    b: &mut [u64],
+    lens: &mut [usize; MAX_NUMBERS],
+    runs: Runs,
+) -> usize
+    requires { ⌜ Keyed (now a) runs (now lens) × (length (now b) ≡ length (now a)) ⌝ }
     ensures { λ r. ⌜ OneRun (now (a .entry)) runs (now (a .exit)) r ⌝ }
 {
+    let mut halves = [0; MAX_NUMBERS];
     let mut r = runs;
     let mut len = r.len;
     while 1 < len {
-        r = halve(a, r, b);
-        r = halve(b, r, a);
+        r = halve(a, lens, r, b, &mut halves);
+        r = halve(b, &halves, r, a, lens);
         len = r.len;
     }
     r.end

@@ -1,31 +1,32 @@
 // The soundness of a state, document 01's "sound".
-ghost use mathlib.Core.Bool.{true, _&&_, not};
+ghost use mathlib.Core.Bool.{true, _&&_, not, cond};
+ghost use mathlib.Core.List.{[]};
 ghost use mathlib.Core.Path.{_≡_};
 ghost use Prim.Native.Nat.{_≤_};
 ghost use lib.Dec.{leb, eqb};
+ghost use Rattle.wire.specs.Frame.{roundFits};
 ghost use Rattle.wire.specs.Limits.{maxNumbers};
 ghost use Rattle.wire.specs.Numbers.{rising, stored, listed};
-ghost use Rattle.controller.specs.Lists.{mem};
-ghost use Rattle.controller.specs.State.{same, soundList, sound, view, soundSaid, soundEmpty};
+ghost use Rattle.controller.specs.Fields.{stateOf, bare};
+ghost use Rattle.controller.specs.State.{same, soundList, sound, soundSaid};
 use crate::lists::has;
+use crate::state::Fields;
 use crate::state::State;
-use wire::frame::Numbers;
 use wire::frame::bit_fits;
 use wire::frame::kind_of;
 use wire::frame::round_fits;
 use wire::limits::MAX_NUMBERS;
 
 // Whether the numbers in the used places rise strictly from above 0. A loop with no way out is compiled to tests of four numbers at once.
-fn rises(list: Numbers) -> bool
-    requires { ⌜ list .len ≤ maxNumbers ⌝ }
-    ensures { λ r. ⌜ r ≡ rising 0 (listed list) ⌝ }
+fn rises(at: &[u32; MAX_NUMBERS], len: usize) -> bool
+    requires { ⌜ len ≤ maxNumbers ⌝ }
+    ensures { λ r. ⌜ r ≡ rising 0 (listed (record { len = len; at = now (at .entry) })) ⌝ }
 {
-    let len = list.len;
     let mut ok = true;
     let mut last = 0;
     let mut i = 0;
     while i < len {
-        let x = list.at[i];
+        let x = at[i];
         ok = ok & (last < x);
         last = x;
         i += 1;
@@ -34,27 +35,26 @@ fn rises(list: Numbers) -> bool
 }
 
 // Whether the unused places are 0, as they are in the stored form.
-fn unused_zero(list: Numbers) -> bool
-    requires { ⌜ list .len ≤ maxNumbers ⌝ }
-    ensures { λ r. ⌜ r ≡ same (list .at) ((stored (listed list)) .at) ⌝ }
+fn unused_zero(at: &[u32; MAX_NUMBERS], len: usize) -> bool
+    requires { ⌜ len ≤ maxNumbers ⌝ }
+    ensures { λ r. ⌜ r ≡ same (now (at .entry)) ((stored (listed (record { len = len; at = now (at .entry) }))) .at) ⌝ }
 {
     let mut ok = true;
-    let mut i = list.len;
+    let mut i = len;
     while i < MAX_NUMBERS {
-        ok = ok & (list.at[i] == 0);
+        ok = ok & (at[i] == 0);
         i += 1;
     }
     ok
 }
 
 // Whether the unused places are 0 and the numbers rise: the stored form of a list.
-fn is_list(list: Numbers) -> bool
-    ensures { λ r. ⌜ r ≡ soundList list ⌝ }
+fn is_list(at: &[u32; MAX_NUMBERS], len: usize) -> bool
+    ensures { λ r. ⌜ r ≡ soundList (record { len = len; at = now (at .entry) }) ⌝ }
 {
-    let len = list.len;
     if len <= MAX_NUMBERS {
-        if rises(list) {
-            unused_zero(list)
+        if rises(at, len) {
+            unused_zero(at, len)
         } else {
             false
         }
@@ -63,37 +63,13 @@ fn is_list(list: Numbers) -> bool
     }
 }
 
-fn lists_sound(state: State) -> bool
-    ensures { λ r. ⌜ r ≡ (soundList (state .heard) && soundList (state .candidates) && soundList (state .echoes)) ⌝ }
+fn said_sound(fields: Fields) -> bool
+    ensures { λ r. ⌜ r ≡ soundSaid (bare fields) ⌝ }
 {
-    let heard = state.heard;
-    let candidates = state.candidates;
-    let echoes = state.echoes;
-    if is_list(heard) {
-        if is_list(candidates) {
-            is_list(echoes)
-        } else {
-            false
-        }
-    } else {
-        false
-    }
-}
-
-fn own_sound(own: u32, heard: Numbers) -> bool
-    requires { ⌜ soundList heard ≡ true ⌝ }
-    ensures { λ r. ⌜ r ≡ (not (eqb own 0) && mem own (listed heard)) ⌝ }
-{
-    if own == 0 { false } else { has(heard, own) }
-}
-
-fn said_sound(state: State) -> bool
-    ensures { λ r. ⌜ r ≡ soundSaid (view state) ⌝ }
-{
-    let kind = kind_of(state.round);
-    if bit_fits(kind, state.said) {
+    let kind = kind_of(fields.round);
+    if bit_fits(kind, fields.said) {
         if kind == 3 {
-            state.said == state.bit
+            fields.said == fields.bit
         } else {
             true
         }
@@ -103,19 +79,13 @@ fn said_sound(state: State) -> bool
 }
 
 // Candidates are empty in rounds 1 and 2, echoes in round 1.
-fn empty_sound(state: State) -> bool
-    requires { ⌜ (soundList (state .candidates) ≡ true) × (soundList (state .echoes) ≡ true) ⌝ }
-    ensures { λ r. ⌜ r ≡ soundEmpty (view state) ⌝ }
+fn empty_sound(round: u32, candidates: usize, echoes: usize) -> bool
+    ensures { λ r. ⌜ r ≡ (cond (leb round 2) (eqb candidates 0) true && cond (leb round 1) (eqb echoes 0) true) ⌝ }
 {
-    let round = state.round;
-    let candidates = state.candidates;
-    let echoes = state.echoes;
-    let joined = candidates.len;
-    let echoed = echoes.len;
     if round <= 1 {
-        if joined == 0 { echoed == 0 } else { false }
+        if candidates == 0 { echoes == 0 } else { false }
     } else if round <= 2 {
-        joined == 0
+        candidates == 0
     } else {
         true
     }
@@ -131,29 +101,14 @@ fn bits_sound(bit: u8, strong: u8, decision: u8) -> bool
     }
 }
 
-fn rest_sound(state: State) -> bool
-    requires { ⌜ (soundList (state .candidates) ≡ true) × (soundList (state .echoes) ≡ true) ⌝ }
-    ensures { λ r. ⌜ r ≡ (soundSaid (view state) && soundEmpty (view state) && (leb (state .bit) 1 && leb (state .strong) 1 && leb (state .decision) 2)) ⌝ }
+// What soundness asks of all but the lists' numbers.
+fn fields_sound(fields: Fields) -> bool
+    ensures { λ r. ⌜ r ≡ (roundFits (fields .round) && soundSaid (bare fields) && (cond (leb (fields .round) 2) (eqb (fields .candidates) 0) true && cond (leb (fields .round) 1) (eqb (fields .echoes) 0) true) && (leb (fields .bit) 1 && leb (fields .strong) 1 && leb (fields .decision) 2)) ⌝ }
 {
-    if said_sound(state) {
-        if empty_sound(state) {
-            bits_sound(state.bit, state.strong, state.decision)
-        } else {
-            false
-        }
-    } else {
-        false
-    }
-}
-
-pub fn is_sound(state: State) -> bool
-    ensures { λ r. ⌜ r ≡ sound state ⌝ }
-{
-    let heard = state.heard;
-    if lists_sound(state) {
-        if round_fits(state.round) {
-            if own_sound(state.own, heard) {
-                rest_sound(state)
+    if round_fits(fields.round) {
+        if said_sound(fields) {
+            if empty_sound(fields.round, fields.candidates, fields.echoes) {
+                bits_sound(fields.bit, fields.strong, fields.decision)
             } else {
                 false
             }
@@ -163,4 +118,78 @@ pub fn is_sound(state: State) -> bool
     } else {
         false
     }
+}
+
+// Whether the three lists are in their stored form.
+fn lists_sound(
+    fields: Fields,
+    heard: &[u32; MAX_NUMBERS],
+    candidates: &[u32; MAX_NUMBERS],
+    echoes: &[u32; MAX_NUMBERS],
+) -> bool
+    ensures { λ r. ⌜ r ≡ (soundList (record { len = fields .heard; at = now (heard .entry) }) && soundList (record { len = fields .candidates; at = now (candidates .entry) }) && soundList (record { len = fields .echoes; at = now (echoes .entry) })) ⌝ }
+{
+    if is_list(heard, fields.heard) {
+        if is_list(candidates, fields.candidates) {
+            is_list(echoes, fields.echoes)
+        } else {
+            false
+        }
+    } else {
+        false
+    }
+}
+
+// Whether a state is sound whose fields and lists' places these are.
+pub(crate) fn parts_sound(
+    fields: Fields,
+    heard: &[u32; MAX_NUMBERS],
+    candidates: &[u32; MAX_NUMBERS],
+    echoes: &[u32; MAX_NUMBERS],
+) -> bool
+    ensures { λ r. ⌜ r ≡ sound (stateOf fields (now (heard .entry)) (now (candidates .entry)) (now (echoes .entry))) ⌝ }
+{
+    if lists_sound(fields, heard, candidates, echoes) {
+        if fields_sound(fields) {
+            if fields.own == 0 {
+                false
+            } else {
+                has(heard, fields.heard, fields.own)
+            }
+        } else {
+            false
+        }
+    } else {
+        false
+    }
+}
+
+// A state's fields, without the places of its lists.
+pub(crate) fn fields_of(state: State) -> Fields
+    ensures { λ r. ⌜ stateOf r (state .heard .at) (state .candidates .at) (state .echoes .at) ≡ state ⌝ }
+{
+    let heard = state.heard;
+    let candidates = state.candidates;
+    let echoes = state.echoes;
+    Fields {
+        own: state.own,
+        round: state.round,
+        bit: state.bit,
+        said: state.said,
+        strong: state.strong,
+        king: state.king,
+        decision: state.decision,
+        heard: heard.len,
+        candidates: candidates.len,
+        echoes: echoes.len,
+    }
+}
+
+pub fn is_sound(state: State) -> bool
+    ensures { λ r. ⌜ r ≡ sound state ⌝ }
+{
+    let heard = state.heard;
+    let candidates = state.candidates;
+    let echoes = state.echoes;
+    parts_sound(fields_of(state), &heard.at, &candidates.at, &echoes.at)
 }

@@ -27,3 +27,25 @@ pub struct Answer {
     pub state: State,
     pub length: usize,
 }
+
+// A state but for the places of its lists, which are lent beside it: a call that works in place copies no list.
+pub struct Fields {
+    pub own: u32,
+    pub round: u32,
+    pub bit: u8,
+    pub said: u8,
+    pub strong: u8,
+    pub king: u32,
+    pub decision: u8,
+    // How many numbers each list has.
+    pub heard: usize,
+    pub candidates: usize,
+    pub echoes: usize,
+}
+
+// What a call in place returns: the refusal, 0 for none; the fields after the call; the length of the frame written, 0 when refused.
+pub struct Worked {
+    pub refusal: u8,
+    pub fields: Fields,
+    pub length: usize,
+}

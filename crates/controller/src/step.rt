@@ -1,49 +1,44 @@
-// One step: the state that a tray makes of a state.
+// One step: what a tray makes of a state whose fields and lists are lent. All senders of the tray are heard already.
 ghost use mathlib.Core.Bool.{true};
+ghost use mathlib.Core.List.{List, []};
 ghost use mathlib.Core.Path.{_≡_};
-ghost use Prim.Native.Nat.{_+_, _≤_, _<_};
-ghost use lib.ListN.{length};
+ghost use Prim.Native.Nat.{ℕ, _+_, _≤_, _<_};
 ghost use Rattle.wire.specs.Frame.{kindOf};
 ghost use Rattle.wire.specs.Limits.{maxNumbers, lastRound};
-ghost use Rattle.wire.specs.Numbers.{stored, listed};
-ghost use Rattle.wire.specs.Tray.{entries, wellFormed};
-ghost use Rattle.controller.specs.State.{view, sound};
-ghost use Rattle.controller.specs.Received.{senders, heardAfter};
-ghost use Rattle.controller.specs.Lists.{In};
-ghost use Rattle.controller.specs.Storage.{Ready, MakesState, namedState};
+ghost use Rattle.wire.specs.Numbers.{stored};
+ghost use Rattle.controller.specs.Fields.{stateOf};
+ghost use Rattle.controller.specs.Storage.{Ready, Makes, Grows, namedState};
 use crate::bit::bit_taken;
 use crate::bit::proposal;
 use crate::bit::spoken;
-use crate::received::Firsts;
-use crate::received::first_entries;
+use crate::received::count_bits;
 use crate::rotation::decides;
 use crate::rotation::king_at;
 use crate::rotation::roster;
-use crate::state::State;
+use crate::state::Fields;
+use crate::tally::Lists;
 use crate::tally::grow;
-use wire::frame::Numbers;
 use wire::frame::kind_of;
+use wire::limits::MAX_NUMBERS;
 
-// A state made by a step; `fits` is false where its candidates or echoes would be more than 64.
+// The fields that a step makes; `fits` is false where candidates or echoes would be more than 64.
 pub(crate) struct Made {
     pub fits: bool,
-    pub state: State,
+    pub fields: Fields,
 }
 
-// (c): the state `next`, whose lists and bit are made, with the decision and the king that follow from the state `was`.
-fn named(next: State, was: State, phase: usize) -> State
-    requires { ⌜ stored (listed (next .candidates)) ≡ next .candidates ⌝ }
-    ensures { λ r. ⌜ r ≡ namedState next was phase ⌝ }
+// (c): the fields `next`, whose lists and bit are made, with the decision and the king that follow from the decision `was` before the step.
+fn named(next: Fields, was: u8, candidates: &[u32; MAX_NUMBERS], phase: usize) -> Fields
+    requires { ⌜ next .candidates ≤ maxNumbers ⌝ }
+    ensures { λ r. ⌜ ((h e : List ℕ) → stateOf r h (now (candidates .entry)) e ≡ namedState (stateOf next h (now (candidates .entry)) e) was phase) ⌝ }
 {
     let mut made = next;
-    let candidates = next.candidates;
-    let count = candidates.len;
-    if decides(was, count, phase) {
+    if decides(was, next.candidates, phase) {
         made.decision = next.bit;
         made.king = 0;
         made
-    } else if was.decision == 2 {
-        made.king = king_at(candidates, phase);
+    } else if was == 2 {
+        made.king = king_at(candidates, next.candidates, phase);
         made
     } else {
         made.king = 0;
@@ -51,94 +46,156 @@ fn named(next: State, was: State, phase: usize) -> State
     }
 }
 
-fn make_roster(state: State, tray: &[u8], heard: Numbers, firsts: Firsts) -> Made
-    requires { ⌜ Ready state (now tray) heard firsts × (kindOf (state .round + 1) ≡ 2) ⌝ }
-    ensures { λ r. ⌜ MakesState state (now (tray .entry)) r ⌝ }
+fn make_roster(
+    fields: Fields,
+    heard: &[u32; MAX_NUMBERS],
+    tray: &[u8],
+    firsts: &[usize; MAX_NUMBERS],
+    echoes: &mut [u32; MAX_NUMBERS],
+) -> Fields
+    requires { ⌜ (fields .heard ≤ maxNumbers) × (fields .round < lastRound) × (now echoes ≡ (stored []) .at) ⌝ }
+    ensures { λ r. ⌜ ((c : List ℕ) → Ready (stateOf fields (now (heard .entry)) c (now (echoes .entry))) (now (tray .entry)) (now (firsts .entry)) → kindOf (fields .round + 1) ≡ 2 → Makes (stateOf fields (now (heard .entry)) c (now (echoes .entry))) (now (tray .entry)) true (stateOf r (now (heard .entry)) c (now (echoes .exit)))) ⌝ }
 {
-    let mut next = state;
-    let echoes = roster(state, tray, heard, firsts);
-    next.round = state.round + 1;
-    next.heard = heard;
-    next.echoes = echoes;
-    Made {
-        fits: true,
-        state: next,
-    }
+    let mut next = fields;
+    next.echoes = roster(fields, heard, tray, firsts, echoes);
+    next.round = fields.round + 1;
+    next
 }
 
-fn make_value(state: State, tray: &[u8], heard: Numbers, firsts: Firsts) -> Made
-    requires { ⌜ Ready state (now tray) heard firsts × (kindOf (state .round + 1) ≡ 3) ⌝ }
-    ensures { λ r. ⌜ MakesState state (now (tray .entry)) r ⌝ }
+fn make_propose(
+    fields: Fields,
+    heard: &[u32; MAX_NUMBERS],
+    tray: &[u8],
+    firsts: &[usize; MAX_NUMBERS],
+) -> Fields
+    requires { ⌜ (fields .heard ≤ maxNumbers) × (fields .round < lastRound) ⌝ }
+    ensures { λ r. ⌜ ((c e : List ℕ) → Ready (stateOf fields (now (heard .entry)) c e) (now (tray .entry)) (now (firsts .entry)) → kindOf (fields .round + 1) ≡ 4 → Makes (stateOf fields (now (heard .entry)) c e) (now (tray .entry)) true (stateOf r (now (heard .entry)) c e)) ⌝ }
 {
-    let mut next = state;
-    let phase = (state.round / 3) as usize;
-    let bit = bit_taken(state, tray, heard, firsts);
-    let lists = grow(state, tray, heard, firsts);
-    let fits = lists.fits;
-    let echoes = lists.echoes;
-    let candidates = lists.candidates;
-    if fits {
-        next.round = state.round + 1;
-        next.heard = heard;
-        next.echoes = echoes;
-        next.candidates = candidates;
-        next.bit = bit;
-        next.said = bit;
-        let made = named(next, state, phase);
-        Made {
-            fits: true,
-            state: made,
-        }
-    } else {
-        Made { fits: false, state }
-    }
+    let mut next = fields;
+    let counts = count_bits(fields, heard, tray, firsts);
+    next.said = proposal(counts, fields.heard);
+    next.round = fields.round + 1;
+    next
 }
 
-fn make_propose(state: State, tray: &[u8], heard: Numbers, firsts: Firsts) -> Made
-    requires { ⌜ Ready state (now tray) heard firsts × (kindOf (state .round + 1) ≡ 4) ⌝ }
-    ensures { λ r. ⌜ MakesState state (now (tray .entry)) r ⌝ }
+fn make_turn(
+    fields: Fields,
+    heard: &[u32; MAX_NUMBERS],
+    tray: &[u8],
+    firsts: &[usize; MAX_NUMBERS],
+) -> Fields
+    requires { ⌜ (fields .heard ≤ maxNumbers) × (fields .round < lastRound) ⌝ }
+    ensures { λ r. ⌜ ((c e : List ℕ) → Ready (stateOf fields (now (heard .entry)) c e) (now (tray .entry)) (now (firsts .entry)) → kindOf (fields .round + 1) ≡ 5 → Makes (stateOf fields (now (heard .entry)) c e) (now (tray .entry)) true (stateOf r (now (heard .entry)) c e)) ⌝ }
 {
-    let mut next = state;
-    next.said = proposal(state, tray, heard, firsts);
-    next.round = state.round + 1;
-    next.heard = heard;
-    Made {
-        fits: true,
-        state: next,
-    }
-}
-
-fn make_turn(state: State, tray: &[u8], heard: Numbers, firsts: Firsts) -> Made
-    requires { ⌜ Ready state (now tray) heard firsts × (kindOf (state .round + 1) ≡ 5) ⌝ }
-    ensures { λ r. ⌜ MakesState state (now (tray .entry)) r ⌝ }
-{
-    let mut next = state;
-    let turn = spoken(state, tray, heard, firsts);
+    let mut next = fields;
+    let counts = count_bits(fields, heard, tray, firsts);
+    let turn = spoken(fields, counts, fields.heard);
     next.bit = turn.bit;
     next.strong = turn.strong;
     next.said = turn.said;
-    next.round = state.round + 1;
-    next.heard = heard;
-    Made {
-        fits: true,
-        state: next,
+    next.round = fields.round + 1;
+    next
+}
+
+// The fields with the lists that have grown and the bit that was taken; those that were where the lists do not fit.
+fn grown(fields: Fields, lists: Lists, bit: u8, candidates: &[u32; MAX_NUMBERS]) -> Made
+    requires { ⌜ (fields .round < lastRound) × (lists .candidates ≤ maxNumbers) ⌝ }
+    ensures { λ r. ⌜ ((b f h c e more : List ℕ) → Grows (stateOf fields h c e) b f lists bit (now (candidates .entry)) more → Makes (stateOf fields h c e) b (r .fits) (stateOf (r .fields) h (now (candidates .entry)) more)) ⌝ }
+{
+    let mut next = fields;
+    let fits = lists.fits;
+    if fits {
+        next.round = fields.round + 1;
+        next.bit = bit;
+        next.said = bit;
+        next.candidates = lists.candidates;
+        next.echoes = lists.echoes;
+        let made = named(
+            next,
+            fields.decision,
+            candidates,
+            (fields.round / 3) as usize,
+        );
+        Made {
+            fits: true,
+            fields: made,
+        }
+    } else {
+        Made {
+            fits: false,
+            fields,
+        }
     }
 }
 
-// The step, by the kind of the frame that is made.
-pub(crate) fn step(state: State, tray: &[u8], heard: Numbers) -> Made
-    requires { ⌜ (sound state ≡ true) × (state .round < lastRound) × (wellFormed (now tray) ≡ true) × (length (heardAfter (view state) (entries (now tray))) ≤ maxNumbers) × (heard ≡ stored (heardAfter (view state) (entries (now tray)))) × (¬ In 0 (senders (entries (now tray)))) ⌝ }
-    ensures { λ r. ⌜ MakesState state (now (tray .entry)) r ⌝ }
+// Making round 3: nobody has been king yet, so the bit stays.
+fn make_first_value(
+    fields: Fields,
+    heard: &[u32; MAX_NUMBERS],
+    candidates: &mut [u32; MAX_NUMBERS],
+    echoes: &mut [u32; MAX_NUMBERS],
+    tray: &[u8],
+    firsts: &[usize; MAX_NUMBERS],
+) -> Made
+    requires { ⌜ Ready (stateOf fields (now heard) (now candidates) (now echoes)) (now tray) (now firsts) × (kindOf (fields .round + 1) ≡ 3) × (fields .round < 3) ⌝ }
+    ensures { λ r. ⌜ Makes (stateOf fields (now (heard .entry)) (now (candidates .entry)) (now (echoes .entry))) (now (tray .entry)) (r .fits) (stateOf (r .fields) (now (heard .entry)) (now (candidates .exit)) (now (echoes .exit))) ⌝ }
 {
-    let firsts = first_entries(tray, heard);
-    let kind = kind_of(state.round + 1);
+    let lists = grow(fields, heard, candidates, echoes, tray, firsts);
+    grown(fields, lists, fields.bit, candidates)
+}
+
+fn make_value(
+    fields: Fields,
+    heard: &[u32; MAX_NUMBERS],
+    candidates: &mut [u32; MAX_NUMBERS],
+    echoes: &mut [u32; MAX_NUMBERS],
+    tray: &[u8],
+    firsts: &[usize; MAX_NUMBERS],
+) -> Made
+    requires { ⌜ Ready (stateOf fields (now heard) (now candidates) (now echoes)) (now tray) (now firsts) × (kindOf (fields .round + 1) ≡ 3) × (fields .round < lastRound) ⌝ }
+    ensures { λ r. ⌜ Makes (stateOf fields (now (heard .entry)) (now (candidates .entry)) (now (echoes .entry))) (now (tray .entry)) (r .fits) (stateOf (r .fields) (now (heard .entry)) (now (candidates .exit)) (now (echoes .exit))) ⌝ }
+{
+    let bit = bit_taken(fields, heard, tray, firsts);
+    let lists = grow(fields, heard, candidates, echoes, tray, firsts);
+    grown(fields, lists, bit, candidates)
+}
+
+// The step, by the kind of the frame that is made.
+pub(crate) fn step(
+    fields: Fields,
+    heard: &[u32; MAX_NUMBERS],
+    candidates: &mut [u32; MAX_NUMBERS],
+    echoes: &mut [u32; MAX_NUMBERS],
+    tray: &[u8],
+    firsts: &[usize; MAX_NUMBERS],
+) -> Made
+    requires { ⌜ Ready (stateOf fields (now heard) (now candidates) (now echoes)) (now tray) (now firsts) × (fields .round < lastRound) ⌝ }
+    ensures { λ r. ⌜ Makes (stateOf fields (now (heard .entry)) (now (candidates .entry)) (now (echoes .entry))) (now (tray .entry)) (r .fits) (stateOf (r .fields) (now (heard .entry)) (now (candidates .exit)) (now (echoes .exit))) ⌝ }
+{
+    let kind = kind_of(fields.round + 1);
     if kind == 2 {
-        make_roster(state, tray, heard, firsts)
+        let made = make_roster(fields, heard, tray, firsts, echoes);
+        Made {
+            fits: true,
+            fields: made,
+        }
     } else if kind == 3 {
-        make_value(state, tray, heard, firsts)
+        if fields.round < 3 {
+            make_first_value(fields, heard, candidates, echoes, tray, firsts)
+        } else {
+            make_value(fields, heard, candidates, echoes, tray, firsts)
+        }
     } else if kind == 4 {
-        make_propose(state, tray, heard, firsts)
+        let made = make_propose(fields, heard, tray, firsts);
+        Made {
+            fits: true,
+            fields: made,
+        }
     } else {
-        make_turn(state, tray, heard, firsts)
+        let made = make_turn(fields, heard, tray, firsts);
+        Made {
+            fits: true,
+            fields: made,
+        }
     }
 }

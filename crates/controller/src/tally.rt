@@ -1,52 +1,59 @@
 // The tally of the received lists, and what it makes of echoes and candidates. The lists rise, so that merging them, the counts of equal numbers
 // added, leaves each number once with its count, least number first.
-ghost use mathlib.Core.Bool.{true};
+ghost use mathlib.Core.Bool.{true, false, cond};
+ghost use mathlib.Core.List.{List, []};
 ghost use mathlib.Core.Option.{some};
 ghost use mathlib.Core.Path.{_≡_};
-ghost use Prim.Native.Nat.{_+_, _*_, _≤_, _<_};
+ghost use Prim.Native.Nat.{ℕ, _+_, _≤_, _<_};
+ghost use lib.Dec.{ltb};
 ghost use lib.ListN.{length, take};
 ghost use Rattle.wire.specs.Limits.{maxNumbers};
 ghost use Rattle.wire.specs.Numbers.{stored, listed};
-ghost use Rattle.wire.specs.Frame.{content};
-ghost use Rattle.wire.specs.Tray.{place, bytesAt};
+ghost use Rattle.wire.specs.Frame.{content, kindOf, maxCount};
+ghost use Rattle.wire.specs.Tray.{place, bytesAt, entries};
+ghost use Rattle.controller.specs.Fields.{stateOf};
 ghost use Rattle.controller.specs.Lists.{mem, Rising};
-ghost use Rattle.controller.specs.State.{sound, soundList};
-ghost use Rattle.controller.specs.Received.{readIn, listIn};
+ghost use Rattle.controller.specs.State.{view, soundList};
+ghost use Rattle.controller.specs.Received.{readIn, listIn, heardAfter};
+ghost use Rattle.controller.specs.Rotation.{allLists};
 ghost use Rattle.controller.specs.Keys.{RisingKeys, numbersIn, reaching, newTo, joinedBy, PutsKeys, Keeps, Joinable};
-ghost use Rattle.controller.specs.Storage.{below, grown, Ready, contentUnder, Alike, Tallies, Sortable, SortsOut, GrowsLists};
+ghost use Rattle.controller.specs.Storage.{below, Ready, listUnder, Alike, Fillable, Tallies, Sortable, SortsOut, GrowsLists};
 use crate::keys::Runs;
 use crate::keys::merge;
 use crate::keys::merge_all;
-use crate::lists::Grown;
-use crate::lists::no_numbers;
-use crate::received::Firsts;
-use crate::received::own_frame;
-use crate::state::State;
-use wire::frame::Numbers;
+use crate::state::Fields;
+use wire::frame::kind_of;
+use wire::frame::max_count;
 use wire::frame::read_count;
 use wire::frame::read_number;
 use wire::limits::MAX_NUMBERS;
+use wire::limits::NUMBER_WIDTH;
 use wire::tray::Found;
 use wire::tray::entry_place;
 use wire::tray::part_of;
 
-// Echoes and candidates after a step; `fits` is false where one of them would have more than 64 numbers.
+// The lengths of echoes and candidates after a step; `fits` is false where one of them would have more than 64 numbers.
 pub(crate) struct Lists {
     pub fits: bool,
-    pub echoes: Numbers,
-    pub candidates: Numbers,
+    pub echoes: usize,
+    pub candidates: usize,
 }
 
 // Puts the numbers of a list, each with a count, into `keys` from `to` on, and returns the place behind them.
-fn put_keys(list: Numbers, count: u64, keys: &mut [u64], to: usize) -> usize
-    requires { ⌜ (list .len ≤ maxNumbers) × (count ≤ maxNumbers) × (to + list .len ≤ length (now keys)) ⌝ }
-    ensures { λ r. ⌜ PutsKeys count (listed list) (now (keys .entry)) (now (keys .exit)) to r ⌝ }
+fn put_keys(
+    list: &[u32; MAX_NUMBERS],
+    len: usize,
+    count: u64,
+    keys: &mut [u64],
+    to: usize,
+) -> usize
+    requires { ⌜ (len ≤ maxNumbers) × (count ≤ maxNumbers) × (to + len ≤ length (now keys)) ⌝ }
+    ensures { λ r. ⌜ PutsKeys count (listed (record { len = len; at = now (list .entry) })) (now (keys .entry)) (now (keys .exit)) to r ⌝ }
 {
-    let len = list.len;
     let mut k = to;
     let mut i = 0;
     while i < len {
-        keys[k] = list.at[i] as u64 * 128 + count;
+        keys[k] = list[i] as u64 * 128 + count;
         k += 1;
         i += 1;
     }
@@ -89,9 +96,21 @@ fn put_entry(
     }
 }
 
-// Puts the list received under the number `x` into `keys`, if `entry` is its first entry. Only the own list is copied.
+// How many of the echoes were sent: all in a roster and a turn, else none.
+fn own_count(fields: Fields) -> usize
+    ensures { λ r. ⌜ r ≡ cond (ltb 0 (maxCount (kindOf (fields .round)))) (fields .echoes) 0 ⌝ }
+{
+    if 0 < max_count(kind_of(fields.round)) {
+        fields.echoes
+    } else {
+        0
+    }
+}
+
+// Puts the list received under the number `x` into `keys`, if `entry` is its first entry.
 fn put_received(
-    state: State,
+    fields: Fields,
+    echoes: &[u32; MAX_NUMBERS],
     tray: &[u8],
     x: u32,
     entry: usize,
@@ -99,16 +118,13 @@ fn put_received(
     keys: &mut [u64],
     to: usize,
 ) -> usize
-    requires { ⌜ (sound state ≡ true) × (count ≤ maxNumbers) × (to + length (listIn (contentUnder state (now tray) x entry)) ≤ length (now keys)) ⌝ }
-    ensures { λ r. ⌜ PutsKeys count (listIn (contentUnder state (now (tray .entry)) x entry)) (now (keys .entry)) (now (keys .exit)) to r ⌝ }
+    requires { ⌜ (fields .echoes ≤ maxNumbers) × (count ≤ maxNumbers) × (to + length (listUnder fields (now echoes) (now tray) x entry) ≤ length (now keys)) ⌝ }
+    ensures { λ r. ⌜ PutsKeys count (listUnder fields (now (echoes .entry)) (now (tray .entry)) x entry) (now (keys .entry)) (now (keys .exit)) to r ⌝ }
 {
-    let own = state.own;
-    if x == own {
-        let frame = own_frame(state);
-        let numbers = frame.numbers;
-        put_keys(numbers, count, keys, to)
+    if x == fields.own {
+        put_keys(echoes, own_count(fields), count, keys, to)
     } else {
-        put_entry(tray, entry, state.round, count, keys, to)
+        put_entry(tray, entry, fields.round, count, keys, to)
     }
 }
 
@@ -174,34 +190,41 @@ fn alike(own: u32, tray: &[u8], heard: &[u32], len: usize, firsts: &[usize], j: 
     i - j
 }
 
-// Puts the list received under each heard number into `keys`, one behind the other. Equal lists that follow each other, as correct controllers mostly
-// send them, are put in once, with their number as the count.
-fn fill(state: State, tray: &[u8], heard: Numbers, firsts: Firsts, keys: &mut [u64]) -> Runs
-    requires { ⌜ Ready state (now tray) heard firsts × (maxNumbers * heard .len < length (now keys)) ⌝ }
-    ensures { λ r. ⌜ Tallies state (now (tray .entry)) (now (keys .exit)) r ⌝ }
+// Puts the list received under each heard number into `keys`, one behind the other, and its length into `lens`. Equal lists that follow each other,
+// as correct controllers mostly send them, are put in once, with their number as the count.
+fn fill(
+    fields: Fields,
+    heard: &[u32; MAX_NUMBERS],
+    echoes: &[u32; MAX_NUMBERS],
+    tray: &[u8],
+    firsts: &[usize; MAX_NUMBERS],
+    keys: &mut [u64],
+    lens: &mut [usize; MAX_NUMBERS],
+) -> Runs
+    requires { ⌜ Fillable fields (now heard) (now echoes) (now tray) (now firsts) (length (now keys)) ⌝ }
+    ensures { λ r. ⌜ Tallies (stateOf fields (now (heard .entry)) [] (now (echoes .entry))) (now (tray .entry)) (now (keys .exit)) r (now (lens .exit)) ⌝ }
 {
-    let len = heard.len;
-    let mut at = [0; MAX_NUMBERS];
     let mut runs = 0;
     let mut end = 0;
     let mut j = 0;
-    while j < len {
-        let count = alike(state.own, tray, &heard.at, len, &firsts.at, j);
+    while j < fields.heard {
+        let count = alike(fields.own, tray, heard, fields.heard, firsts, j);
         let next = put_received(
-            state,
+            fields,
+            echoes,
             tray,
-            heard.at[j],
-            firsts.at[j],
+            heard[j],
+            firsts[j],
             count as u64,
             keys,
             end,
         );
-        at[runs] = next - end;
+        lens[runs] = next - end;
         runs += 1;
         end = next;
         j += count;
     }
-    Runs { len: runs, end, at }
+    Runs { len: runs, end }
 }
 
 // Keeps those of the first `end` keys whose count, three times, reaches `bar`, and returns the place behind them.
@@ -250,20 +273,19 @@ fn stands_at(list: &[u32], len: usize, at: usize, x: u64) -> bool
     }
 }
 
-// Keeps those of the first `end` keys whose numbers are not in a list, and returns the place behind them.
-fn keep_new(keys: &mut [u64], end: usize, were: Numbers) -> usize
-    requires { ⌜ (end ≤ length (now keys)) × RisingKeys (take end (now keys)) × (soundList were ≡ true) ⌝ }
-    ensures { λ r. ⌜ Keeps (newTo (listed were) (take end (now (keys .entry)))) (now (keys .exit)) end r ⌝ }
+// Keeps those of the first `end` keys whose numbers are not among the `len` of a list, and returns the place behind them.
+fn keep_new(keys: &mut [u64], end: usize, list: &[u32; MAX_NUMBERS], len: usize) -> usize
+    requires { ⌜ (end ≤ length (now keys)) × RisingKeys (take end (now keys)) × (soundList (record { len = len; at = now list }) ≡ true) ⌝ }
+    ensures { λ r. ⌜ Keeps (newTo (listed (record { len = len; at = now (list .entry) })) (take end (now (keys .entry)))) (now (keys .exit)) end r ⌝ }
 {
-    let olds = were.at;
     let mut place = 0;
     let mut k = 0;
     let mut i = 0;
     while i < end {
         let key = keys[i];
         i += 1;
-        place = place_from(&olds, were.len, place, key / 128);
-        if stands_at(&olds, were.len, place, key / 128) {
+        place = place_from(list, len, place, key / 128);
+        if stands_at(list, len, place, key / 128) {
             continue;
         }
         keys[k] = key;
@@ -272,119 +294,196 @@ fn keep_new(keys: &mut [u64], end: usize, were: Numbers) -> usize
     k
 }
 
-// The numbers of the first `end` keys.
-fn numbers_of(keys: &[u64], end: usize) -> Numbers
-    requires { ⌜ (end ≤ maxNumbers) × (end ≤ length (now keys)) × RisingKeys (take end (now keys)) ⌝ }
-    ensures { λ r. ⌜ r ≡ stored (numbersIn (take end (now (keys .entry)))) ⌝ }
-{
-    let mut at = [0; MAX_NUMBERS];
-    let mut i = 0;
-    while i < end {
-        at[i] = (keys[i] / 128) as u32;
-        i += 1;
-    }
-    Numbers { len: end, at }
-}
-
-// The numbers of a list, with those of the first `end` keys. `b` is room to work in.
-fn join(a: &mut [u64], end: usize, list: Numbers, b: &mut [u64]) -> Grown
-    requires { ⌜ Joinable (now a) (now b) end list ⌝ }
-    ensures { λ r. ⌜ r ≡ grown (joinedBy (take end (now (a .entry))) (listed list)) list ⌝ }
-{
-    let next = put_keys(list, 1, a, end);
-    let n = merge(a, 0, end, next, b, 0);
-    if n <= MAX_NUMBERS {
-        let more = numbers_of(b, n);
-        Grown {
-            fits: true,
-            list: more,
-        }
-    } else {
-        Grown { fits: false, list }
-    }
-}
-
 // Keeps those of the first `end` keys that reach `bar` and whose numbers are not in a list, and returns the place behind them.
-fn keep_new_reaching(keys: &mut [u64], end: usize, were: Numbers, bar: u64) -> usize
-    requires { ⌜ (end ≤ length (now keys)) × RisingKeys (take end (now keys)) × (soundList were ≡ true) ⌝ }
-    ensures { λ r. ⌜ Keeps (newTo (listed were) (reaching bar (take end (now (keys .entry))))) (now (keys .exit)) end r ⌝ }
+fn keep_new_reaching(
+    keys: &mut [u64],
+    end: usize,
+    list: &[u32; MAX_NUMBERS],
+    len: usize,
+    bar: u64,
+) -> usize
+    requires { ⌜ (end ≤ length (now keys)) × RisingKeys (take end (now keys)) × (soundList (record { len = len; at = now list }) ≡ true) ⌝ }
+    ensures { λ r. ⌜ Keeps (newTo (listed (record { len = len; at = now (list .entry) })) (reaching bar (take end (now (keys .entry))))) (now (keys .exit)) end r ⌝ }
 {
     let reached = keep_reaching(keys, end, bar);
-    keep_new(keys, reached, were)
+    keep_new(keys, reached, list, len)
 }
 
-// The numbers of a list, with those of the first `end` keys that reach `bar`. `b` is room to work in.
-fn join_reaching(a: &mut [u64], end: usize, list: Numbers, bar: u64, b: &mut [u64]) -> Grown
-    requires { ⌜ Joinable (now a) (now b) end list ⌝ }
-    ensures { λ r. ⌜ r ≡ grown (joinedBy (reaching bar (take end (now (a .entry)))) (listed list)) list ⌝ }
+// Copies those of the first `end` keys whose count, three times, reaches `bar`, and returns the place behind them.
+fn copy_reaching(keys: &[u64], end: usize, bar: u64, to: &mut [u64]) -> usize
+    requires { ⌜ (end ≤ length (now keys)) × (end ≤ length (now to)) ⌝ }
+    ensures { λ r. ⌜ Keeps (reaching bar (take end (now (keys .entry)))) (now (to .exit)) end r ⌝ }
 {
-    let joining = keep_reaching(a, end, bar);
-    join(a, joining, list, b)
-}
-
-// What the counts in the first `end` keys, of `len` lists, make of echoes and candidates. `b` is room to work in.
-fn sort_out(a: &mut [u64], end: usize, were: Numbers, len: usize, b: &mut [u64]) -> Lists
-    requires { ⌜ Sortable (now a) (now b) end were len ⌝ }
-    ensures { λ r. ⌜ SortsOut (take end (now (a .entry))) (listed were) len r ⌝ }
-{
-    let bar = len as u64;
-    let new = keep_new_reaching(a, end, were, bar);
-    if MAX_NUMBERS < new {
-        return Lists {
-            fits: false,
-            echoes: no_numbers(),
-            candidates: were,
-        };
+    let mut k = 0;
+    let mut i = 0;
+    while i < end {
+        let key = keys[i];
+        i += 1;
+        if 3 * (key % 128) < bar {
+            continue;
+        }
+        to[k] = key;
+        k += 1;
     }
-    let echoes = numbers_of(a, new);
-    let joined = join_reaching(a, new, were, 2 * bar, b);
-    let fits = joined.fits;
-    let candidates = joined.list;
+    k
+}
+
+// Makes a list of the numbers of the first `end` keys.
+fn put_numbers(keys: &[u64], end: usize, list: &mut [u32; MAX_NUMBERS])
+    requires { ⌜ (end ≤ maxNumbers) × (end ≤ length (now keys)) × RisingKeys (take end (now keys)) ⌝ }
+    ensures { λ r. ⌜ now (list .exit) ≡ (stored (numbersIn (take end (now (keys .entry))))) .at ⌝ }
+{
+    let mut i = 0;
+    while i < end {
+        list[i] = (keys[i] / 128) as u32;
+        i += 1;
+    }
+    while i < MAX_NUMBERS {
+        list[i] = 0;
+        i += 1;
+    }
+}
+
+// Puts the numbers of the first `end` keys into a list, and returns its length. `b` is room to work in.
+fn join(
+    a: &mut [u64],
+    end: usize,
+    list: &mut [u32; MAX_NUMBERS],
+    len: usize,
+    b: &mut [u64],
+) -> usize
+    requires { ⌜ Joinable (now a) (now b) end (record { len = len; at = now list }) ⌝ }
+    ensures { λ r. ⌜ record { len = r; at = now (list .exit) } ≡ stored (joinedBy (take end (now (a .entry))) (listed (record { len = len; at = now (list .entry) }))) ⌝ }
+{
+    let next = put_keys(list, len, 1, a, end);
+    let joined = merge(a, 0, end, next, b, 0);
+    put_numbers(b, joined, list);
+    joined
+}
+
+// What the counts in the first `end` keys, of `h` lists, make of echoes and of the `len` candidates. `b` is room to work in.
+fn sort_out(
+    a: &mut [u64],
+    end: usize,
+    h: usize,
+    candidates: &mut [u32; MAX_NUMBERS],
+    len: usize,
+    echoes: &mut [u32; MAX_NUMBERS],
+    b: &mut [u64],
+) -> Lists
+    requires { ⌜ Sortable (now a) (now b) end (record { len = len; at = now candidates }) h ⌝ }
+    ensures { λ r. ⌜ SortsOut (take end (now (a .entry))) h (record { len = len; at = now (candidates .entry) }) (now (echoes .entry)) r (now (candidates .exit)) (now (echoes .exit)) ⌝ }
+{
+    let bar = h as u64;
+    let new = keep_new_reaching(a, end, candidates, len, bar);
+    if MAX_NUMBERS < new {
+        return no_room();
+    }
+    let joining = copy_reaching(a, new, 2 * bar, b);
+    if MAX_NUMBERS < joining + len {
+        return no_room();
+    }
+    put_numbers(a, new, echoes);
+    let joined = join(b, joining, candidates, len, a);
     Lists {
-        fits,
-        echoes,
-        candidates,
+        fits: true,
+        echoes: new,
+        candidates: joined,
+    }
+}
+
+fn no_room() -> Lists
+    ensures { λ r. ⌜ r ≡ record { fits = false; echoes = 0; candidates = 0 } ⌝ }
+{
+    Lists {
+        fits: false,
+        echoes: 0,
+        candidates: 0,
     }
 }
 
 // Echoes and candidates after the tray, with `a` and `b` to work in.
 fn grow_in(
-    state: State,
+    fields: Fields,
+    heard: &[u32; MAX_NUMBERS],
+    candidates: &mut [u32; MAX_NUMBERS],
+    echoes: &mut [u32; MAX_NUMBERS],
     tray: &[u8],
-    heard: Numbers,
-    firsts: Firsts,
+    firsts: &[usize; MAX_NUMBERS],
     a: &mut [u64],
     b: &mut [u64],
 ) -> Lists
-    requires { ⌜ Ready state (now tray) heard firsts × (maxNumbers * heard .len < length (now a)) × (maxNumbers + maxNumbers < length (now a)) × (length (now b) ≡ length (now a)) ⌝ }
-    ensures { λ r. ⌜ GrowsLists state (now (tray .entry)) r ⌝ }
+    requires { ⌜ Ready (stateOf fields (now heard) (now candidates) (now echoes)) (now tray) (now firsts) × (length (allLists (view (stateOf fields (now heard) (now candidates) (now echoes))) (entries (now tray)) (heardAfter (view (stateOf fields (now heard) (now candidates) (now echoes))) (entries (now tray)))) < length (now a)) × (maxNumbers < length (now a)) × (length (now b) ≡ length (now a)) ⌝ }
+    ensures { λ r. ⌜ GrowsLists (stateOf fields (now (heard .entry)) (now (candidates .entry)) (now (echoes .entry))) (now (tray .entry)) r (now (candidates .exit)) (now (echoes .exit)) ⌝ }
 {
-    let runs = fill(state, tray, heard, firsts, a);
-    let end = merge_all(a, b, runs);
-    let were = state.candidates;
-    sort_out(a, end, were, heard.len, b)
+    let mut lens = [0; MAX_NUMBERS];
+    let runs = fill(fields, heard, echoes, tray, firsts, a, &mut lens);
+    let end = merge_all(a, b, &mut lens, runs);
+    sort_out(a, end, fields.heard, candidates, fields.candidates, echoes, b)
 }
 
-// Echoes and candidates after the tray. Few lists need little room, which is quick to clear.
-pub(crate) fn grow(state: State, tray: &[u8], heard: Numbers, firsts: Firsts) -> Lists
-    requires { ⌜ Ready state (now tray) heard firsts ⌝ }
-    ensures { λ r. ⌜ GrowsLists state (now (tray .entry)) r ⌝ }
+// How many numbers the frame of an entry can list; 0 where there is no such entry.
+fn entry_most(tray: &[u8], entry: usize) -> usize
+    ensures { λ r. ⌜ (r < 16384) × ((t : ℕ) → length (listIn (readIn t (bytesAt (now (tray .entry)) (place (now (tray .entry)) entry)))) ≤ r) ⌝ }
 {
-    if heard.len <= 8 {
-        let mut a = [0u64; 520];
-        let mut b = [0u64; 520];
-        grow_in(state, tray, heard, firsts, &mut a, &mut b)
-    } else if heard.len <= 16 {
+    let found = entry_place(tray, entry);
+    match found {
+        Found::At(_, len) => len / NUMBER_WIDTH,
+        Found::Nothing => 0,
+    }
+}
+
+// How many numbers can be listed in all.
+fn most_listed(
+    fields: Fields,
+    heard: &[u32; MAX_NUMBERS],
+    tray: &[u8],
+    firsts: &[usize; MAX_NUMBERS],
+) -> usize
+    requires { ⌜ (fields .heard ≤ maxNumbers) × (fields .echoes ≤ maxNumbers) ⌝ }
+    ensures { λ r. ⌜ ((c e : List ℕ) → Ready (stateOf fields (now (heard .entry)) c e) (now (tray .entry)) (now (firsts .entry)) → length (allLists (view (stateOf fields (now (heard .entry)) c e)) (entries (now (tray .entry))) (heardAfter (view (stateOf fields (now (heard .entry)) c e)) (entries (now (tray .entry))))) ≤ r) ⌝ }
+{
+    let mut total = 0;
+    let mut j = 0;
+    while j < fields.heard {
+        if heard[j] == fields.own {
+            total += fields.echoes;
+        } else {
+            total += entry_most(tray, firsts[j]);
+        }
+        j += 1;
+    }
+    total
+}
+
+// Echoes and candidates after the tray. Short lists need little room, which is quick to clear.
+pub(crate) fn grow(
+    fields: Fields,
+    heard: &[u32; MAX_NUMBERS],
+    candidates: &mut [u32; MAX_NUMBERS],
+    echoes: &mut [u32; MAX_NUMBERS],
+    tray: &[u8],
+    firsts: &[usize; MAX_NUMBERS],
+) -> Lists
+    requires { ⌜ Ready (stateOf fields (now heard) (now candidates) (now echoes)) (now tray) (now firsts) ⌝ }
+    ensures { λ r. ⌜ GrowsLists (stateOf fields (now (heard .entry)) (now (candidates .entry)) (now (echoes .entry))) (now (tray .entry)) r (now (candidates .exit)) (now (echoes .exit)) ⌝ }
+{
+    let most = most_listed(fields, heard, tray, firsts);
+    if most < 72 {
+        let mut a = [0u64; 72];
+        let mut b = [0u64; 72];
+        grow_in(fields, heard, candidates, echoes, tray, firsts, &mut a, &mut b)
+    } else if most < 264 {
+        let mut a = [0u64; 264];
+        let mut b = [0u64; 264];
+        grow_in(fields, heard, candidates, echoes, tray, firsts, &mut a, &mut b)
+    } else if most < 1032 {
         let mut a = [0u64; 1032];
         let mut b = [0u64; 1032];
-        grow_in(state, tray, heard, firsts, &mut a, &mut b)
-    } else if heard.len <= 32 {
-        let mut a = [0u64; 2056];
-        let mut b = [0u64; 2056];
-        grow_in(state, tray, heard, firsts, &mut a, &mut b)
+        grow_in(fields, heard, candidates, echoes, tray, firsts, &mut a, &mut b)
     } else {
         let mut a = [0u64; 4104];
         let mut b = [0u64; 4104];
-        grow_in(state, tray, heard, firsts, &mut a, &mut b)
+        grow_in(fields, heard, candidates, echoes, tray, firsts, &mut a, &mut b)
     }
 }

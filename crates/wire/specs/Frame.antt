@@ -7,6 +7,7 @@
 --     readRefusal s t           0, or 11 where the bytes s are void for round t
 --     content s t               the content of the bytes s, read in round t, if they have one
 --     readStored, readView      the reader's answer for a content or none, and the content that an answer holds
+--     bitIn o                   the bit of a content; 3 for none
 --     writeRefusal c n          0, or the refusal for content c and an output buffer of n bytes: 10, then 3
 --     frameBytes c              the bytes of content c
 -- Bytes of a list are numbers below 256.
@@ -116,6 +117,11 @@ content s t = cond (eqb (readRefusal s t) 0) (some (contentOf s t)) none
 abbrev pub readStored : Option Content → FrameRead
 readStored none = record { read = Void; numbers = stored [] }
 readStored (some c) = record { read = Valid (record { round = c .round; said = c .said }); numbers = stored (c .numbers) }
+
+-- byte 5 of the frame with a content; 3, which no frame has there, for none
+abbrev pub bitIn : Option Content → ℕ
+bitIn none = 3
+bitIn (some c) = bitSaid (c .said)
 
 abbrev pub viewOf : Read → Numbers → Option Content
 viewOf (Valid f) n = some (record { round = f .round; said = f .said; numbers = listed n })

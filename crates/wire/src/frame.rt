@@ -10,7 +10,7 @@ ghost use lib.Seq.{sets};
 ghost use Rattle.wire.specs.Limits.{frameHeader, numberWidth, maxNumbers};
 ghost use Rattle.wire.specs.Numbers.{rising, stored};
 ghost use Rattle.wire.specs.Words.{wordAt, wordsAt, wordsBytes};
-ghost use Rattle.wire.specs.Frame.{kindOf, chosenBy, saidBy, bitFits, maxCount, countOf, contentOf, readStored, lengthFits, headFits, bodyFits, roundFits, content, FrameReads, bitChosen, kindSaid, bitSaid, chosenFits, saidFits, writable, headerBytes, FrameWrites};
+ghost use Rattle.wire.specs.Frame.{kindOf, chosenBy, saidBy, bitFits, maxCount, countOf, contentOf, readStored, lengthFits, headFits, bodyFits, roundFits, content, FrameReads, bitChosen, kindSaid, bitSaid, chosenFits, saidFits, bitIn, writable, headerBytes, FrameWrites};
 use crate::limits::BIT_AT;
 use crate::limits::COUNT_AT;
 use crate::limits::FRAME_HEADER;
@@ -323,15 +323,14 @@ pub fn read_frame(bytes: &[u8], round: u32) -> FrameRead
     }
 }
 
-// What bytes say in a round, or void: `read_frame` without the list, for those who do not want it.
-pub fn read_said(bytes: &[u8], round: u32) -> Read
-    ensures { λ r. ⌜ r ≡ (readStored (content (now (bytes .entry)) round)) .read ⌝ }
+// The bit that bytes have in a round, for those who want nothing else of a frame; 3 where the bytes are void.
+pub fn read_bit(bytes: &[u8], round: u32) -> u8
+    ensures { λ r. ⌜ r ≡ bitIn (content (now (bytes .entry)) round) ⌝ }
 {
     if is_frame(bytes, round) {
-        let said = said_by(kind_of(round), bytes[BIT_AT]);
-        Read::Valid(Frame { round, said })
+        bytes[BIT_AT]
     } else {
-        Read::Void
+        3
     }
 }
 

@@ -4,12 +4,10 @@ ghost use mathlib.Core.Path.{_≡_};
 ghost use Prim.Native.Nat.{_+_, _≤_};
 ghost use lib.Dec.{leb};
 ghost use lib.ListN.{length};
-ghost use Rattle.wire.specs.Frame.{content, readStored, FrameReads};
+ghost use Rattle.wire.specs.Frame.{FrameReads};
 ghost use Rattle.wire.specs.Tray.{wellFormed, roundOf, entryCount, entryAt, inDirectory, sender, place, firstPlace, chained, part};
 use crate::frame::FrameRead;
-use crate::frame::Read;
 use crate::frame::read_frame;
-use crate::frame::read_said;
 use crate::limits::ENTRIES_AT;
 use crate::limits::ENTRY_WIDTH;
 use crate::limits::LENGTH_AT;
@@ -158,17 +156,6 @@ pub fn read_part(tray: &[u8], offset: usize, len: usize, round: u32) -> FrameRea
         read_frame(&tray[offset..offset + len], round)
     } else {
         read_frame(&tray[0..0], round)
-    }
-}
-
-// What the frame in the `len` bytes from `offset` on says: `read_part` without the list.
-pub fn part_said(tray: &[u8], offset: usize, len: usize, round: u32) -> Read
-    ensures { λ r. ⌜ r ≡ (readStored (content (part (now (tray .entry)) offset len) round)) .read ⌝ }
-{
-    if lies_in(tray, offset, len) {
-        read_said(&tray[offset..offset + len], round)
-    } else {
-        read_said(&tray[0..0], round)
     }
 }
 

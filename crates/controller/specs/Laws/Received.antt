@@ -15,11 +15,9 @@ use Rattle.wire.specs.Laws.Frame.{kind-range, said-kind, said-bit, said-allowed
 use Rattle.wire.specs.Limits.{maxNumbers, lastRound}
 use Rattle.wire.specs.Numbers.{rising, stored}
 use Rattle.wire.specs.Tray.{Entry, entryCount, sender, entriesFrom, entries, firstBytes}
-use Rattle.wire.specs.declared.frame.FrameRead.{FrameRead}
 use Rattle.controller.specs.Lists.{In, Rising}
 use Rattle.controller.specs.State.{View}
 use Rattle.controller.specs.Received.{frameOf, senders, heardAfter, readIn, received, says, opinionIn, listIn}
-use Rattle.controller.specs.Storage.{saysRead, opinionRead}
 use Rattle.controller.specs.Laws.Lists.{inside-length, insert-all-in, insert-all-rising, rising-gives, rising-test}
 use Rattle.controller.specs.Laws.State.{SoundList, Sound}
 
@@ -78,21 +76,6 @@ unheard-received v es h x out =
 pub read-numbers-are : (o : Option Content) → (readStored o) .numbers ≡ stored (listIn o)
 read-numbers-are none = refl
 read-numbers-are (some c) = refl
-
--- a frame that is read without its list says what it says
-pub read-says-is : (o : Option Content) (k b : ℕ) → saysRead k b ((readStored o) .read) ≡ says k b o
-read-says-is none k b = refl
-read-says-is (some c) k b = refl
-
-read-opinion-is : (o : Option Content) → opinionRead ((readStored o) .read) ≡ opinionIn o
-read-opinion-is none = refl
-read-opinion-is (some c) = refl
-
-pub stored-says : (r : FrameRead) (o : Option Content) (k b : ℕ) → r ≡ readStored o → saysRead k b (r .read) ≡ says k b o
-stored-says r o k b e = rw e (read-says-is o k b)
-
-pub stored-opinion : (r : FrameRead) (o : Option Content) → r ≡ readStored o → opinionRead (r .read) ≡ opinionIn o
-stored-opinion r o e = rw e (read-opinion-is o)
 
 -- ---- the frame of a sound state
 

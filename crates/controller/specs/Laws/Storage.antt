@@ -14,8 +14,7 @@ use Rattle.wire.specs.Limits.{maxNumbers}
 use Rattle.wire.specs.Numbers.{stored, listed}
 use Rattle.wire.specs.declared.frame.Numbers.{Numbers}
 use Rattle.controller.specs.Lists.{In, mem, insert, Rising}
-use Rattle.controller.specs.Storage.{below, insertedAt, opened, grown}
-use Rattle.controller.specs.declared.lists.Grown.{Grown}
+use Rattle.controller.specs.Storage.{below, insertedAt, opened}
 use Rattle.controller.specs.Laws.Lists.{true-or-false, out-mem, getD-in, count-none, count-short, count-split, rising-place, mem-in, mem-out}
 
 -- ---- the place of a number
@@ -149,30 +148,3 @@ opened-stored n i x at e h k p =
     let size : n .len + 1 ≡ length l = sym (inserted-length i x (listed n) (omega arith) ∙ rw used) in
     let places : at ≡ (stored l) .at = p ∙ places-stored n i x e h k ∙ ap (λ (c : ℕ). l ++ replicate (maxNumbers - c) 0) size in
     λ j. record { len = size j; at = places j }
-
-pub grown-fits : (l : List ℕ) (n m : Numbers) → length l ≤ maxNumbers → m ≡ stored l → _≡_ {A = Grown} (record { fits = true; list = m }) (grown l n)
-unfolding grown
-grown-fits l n m h e = rw (e, le-leb (length l) maxNumbers h)
-
-pub grown-full : (l : List ℕ) (n : Numbers) → maxNumbers < length l → _≡_ {A = Grown} (record { fits = false; list = n }) (grown l n)
-unfolding grown
-grown-full l n h = rw (lt-leb (length l) maxNumbers h)
-
--- a list that grew says by `fits` whether it has at most 64 numbers, and then holds them
-pub grown-test : (l : List ℕ) (n : Numbers) (r : Grown) → r ≡ grown l n → r .fits ≡ leb (length l) maxNumbers
-unfolding grown
-grown-test l n r e = ap (λ (g : Grown). g .fits) e ∙ pick (leb (length l) maxNumbers)
-  where
-    pick : (t : Bool) → (cond {A = Grown} t (record { fits = true; list = stored l }) (record { fits = false; list = n })) .fits ≡ t
-    pick true = refl
-    pick false = refl
-
-pub grown-list : (l : List ℕ) (n : Numbers) (r : Grown) → r ≡ grown l n → r .fits ≡ true → r .list ≡ stored l
-unfolding grown
-grown-list l n r e f = ap (λ (g : Grown). g .list) e ∙ rw (sym (grown-test l n r e) ∙ f)
-
-pub fits-gives : (l : List ℕ) (n : Numbers) (r : Grown) → r ≡ grown l n → r .fits ≡ true → (length l ≤ maxNumbers) × (r .list ≡ stored l)
-fits-gives l n r e f = (leb-true _ _ (sym (grown-test l n r e) ∙ f), grown-list l n r e f)
-
-pub long-gives : (l : List ℕ) (n : Numbers) (r : Grown) → r ≡ grown l n → r .fits ≡ false → maxNumbers < length l
-long-gives l n r e f = leb-false _ _ (sym (grown-test l n r e) ∙ f)

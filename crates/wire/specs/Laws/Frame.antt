@@ -23,7 +23,7 @@ use Rattle.wire.specs.Numbers.{rising, stored}
 use Rattle.wire.specs.Laws.Numbers.{listed-stored}
 use Rattle.wire.specs.Laws.Words.{half-back, word-back, words-behind, words-back, words-length, byte-drop, half-drop, word-drop, words-drop}
 use Rattle.wire.specs.Refusal.{firstFailed}
-use Rattle.wire.specs.Frame.{maxCount, countOf, numbersOf, lengthFits, headFits, bodyFits, Content, readRefusal, contentOf, content, readStored, readView, numberRead, FrameReads, kindOf, bitChosen, kindSaid, bitSaid, chosenBy, saidBy, bitFits, chosenFits, saidFits, roundFits, writable, headerBytes, frameBytes}
+use Rattle.wire.specs.Frame.{maxCount, countOf, numbersOf, lengthFits, headFits, bodyFits, Content, readRefusal, contentOf, content, readStored, readView, numberRead, FrameReads, kindOf, bitChosen, kindSaid, bitSaid, chosenBy, saidBy, bitFits, chosenFits, saidFits, bitIn, roundFits, writable, headerBytes, frameBytes}
 
 pub max-count-bound : (k : ℕ) → maxCount k ≤ maxNumbers
 unfolding maxCount
@@ -315,6 +315,13 @@ body-gives s t h =
     let e₂ = and-eq-true-iff (bitFits (kindOf t) (getD s bitAt 0) && leb (countOf s) (maxCount (kindOf t))) (rising 0 (numbersOf s)) .0 h in
     let e₁ = and-eq-true-iff (bitFits (kindOf t) (getD s bitAt 0)) (leb (countOf s) (maxCount (kindOf t))) .0 (e₂ .0) in
     record { bit = e₁ .0; count = leb-true _ _ (e₁ .1); rise = e₂ .1 }
+
+-- byte 5 of bytes that are a frame is the bit that they say
+pub bit-read : (s : List ℕ) (t : ℕ) → (lengthFits s && headFits s t && bodyFits s t) ≡ true → getD s bitAt 0 ≡ bitIn (content s t)
+bit-read s t h =
+    let k = kind-range t in
+    let body = and-eq-true-iff (lengthFits s && headFits s t) (bodyFits s t) .0 h .1 in
+    rw (content-is s t, h) (sym (said-bit (kindOf t) (getD s bitAt 0) (k .0) (k .1) (body-gives s t body .bit)))
 
 pub writes-read : (s : List ℕ) (t : ℕ) (c : Content) → Below 256 s → content s t ≡ some c → frameBytes c ≡ s
 unfolding frameBytes
