@@ -19,7 +19,7 @@ use crate::received::first_entries;
 use crate::received::hear;
 use crate::received::senders_fit;
 use crate::sound::fields_of;
-use crate::sound::parts_sound;
+use crate::sound::is_sound;
 use crate::state::Answer;
 use crate::state::Fields;
 use crate::state::State;
@@ -257,7 +257,7 @@ pub fn work(
 ) -> Worked
     ensures { λ r. ⌜ TrayPromise (stateOf fields (now (heard .entry)) (now (candidates .entry)) (now (echoes .entry))) (now (tray .entry)) (now (out .entry)) (answerOf r (now (heard .exit)) (now (candidates .exit)) (now (echoes .exit))) (now (out .exit)) ⌝ }
 {
-    if parts_sound(fields, heard, candidates, echoes) {
+    if is_sound(fields, heard, candidates, echoes) {
         if LAST_ROUND <= fields.round {
             return left(2, fields);
         }

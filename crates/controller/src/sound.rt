@@ -141,7 +141,7 @@ fn lists_sound(
 }
 
 // Whether a state is sound whose fields and lists' places these are.
-pub(crate) fn parts_sound(
+pub fn is_sound(
     fields: Fields,
     heard: &[u32; MAX_NUMBERS],
     candidates: &[u32; MAX_NUMBERS],
@@ -165,7 +165,7 @@ pub(crate) fn parts_sound(
 }
 
 // A state's fields, without the places of its lists.
-pub(crate) fn fields_of(state: State) -> Fields
+pub fn fields_of(state: State) -> Fields
     ensures { λ r. ⌜ stateOf r (state .heard .at) (state .candidates .at) (state .echoes .at) ≡ state ⌝ }
 {
     let heard = state.heard;
@@ -183,13 +183,4 @@ pub(crate) fn fields_of(state: State) -> Fields
         candidates: candidates.len,
         echoes: echoes.len,
     }
-}
-
-pub fn is_sound(state: State) -> bool
-    ensures { λ r. ⌜ r ≡ sound state ⌝ }
-{
-    let heard = state.heard;
-    let candidates = state.candidates;
-    let echoes = state.echoes;
-    parts_sound(fields_of(state), &heard.at, &candidates.at, &echoes.at)
 }

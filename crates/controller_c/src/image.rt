@@ -1,13 +1,15 @@
-// A state and its image: 1,024 bytes, laid out as docs/IMAGE.md has them.
+// A state and its image: 1,024 bytes, laid out as docs/IMAGE.md has them. Of a list's places only the used ones are read and written one by one.
 ghost use mathlib.Core.Bool.{true};
+ghost use mathlib.Core.List.{[], _++_};
 ghost use mathlib.Core.Path.{_≡_};
-ghost use Prim.Native.Nat.{_+_, _*_, _≤_};
-ghost use lib.ListN.{length, drop};
-ghost use lib.Seq.{sets};
+ghost use Prim.Native.Nat.{_+_, _-_, _*_, _≤_};
+ghost use lib.ListN.{length, take, drop, replicate};
+ghost use lib.Seq.{sets, slice};
 ghost use Rattle.wire.specs.Limits.{maxNumbers, numberWidth};
-ghost use Rattle.wire.specs.Words.{wordsBytes};
-ghost use Rattle.controller.specs.State.{sound};
-ghost use Rattle.controller_c.specs.Image.{imageBytes, heardAt, candidatesAt, echoesAt, reservedAt, listWidth, headBytes, listBytes, zerosFrom, laidOut, placesAt, listAt, takenApart, zeros, shaped, soundImage};
+ghost use Rattle.wire.specs.Words.{wordsAt, wordsBytes};
+ghost use Rattle.controller.specs.Fields.{stateOf};
+ghost use Rattle.controller.specs.State.{sound, soundList};
+ghost use Rattle.controller_c.specs.Image.{imageBytes, heardAt, candidatesAt, echoesAt, reservedAt, listWidth, headBytes, listBytes, laidOut, listAt, takenApart, zeros, shaped, soundImage};
 use crate::layout::BIT_AT;
 use crate::layout::CANDIDATES_AT;
 use crate::layout::COUNT_BYTES;
@@ -24,46 +26,73 @@ use crate::layout::STRONG_AT;
 use crate::word::put_word;
 use crate::word::word;
 use controller::sound::is_sound;
-use controller::state::State;
-use wire::frame::Numbers;
+use controller::state::Fields;
 use wire::limits::MAX_NUMBERS;
 use wire::limits::NUMBER_WIDTH;
 
+// Whether the bytes from `from` to `to` are 0. Every byte is looked at, so that the loop has no way out to wait for.
+fn all_zero(image: &[u8], from: usize, to: usize) -> bool
+    requires { ⌜ (from ≤ to) × (to ≤ length (now image)) ⌝ }
+    ensures { λ r. ⌜ r ≡ zeros (slice from to (now (image .entry))) ⌝ }
+{
+    let mut zero = true;
+    let mut i = from;
+    while i < to {
+        zero = zero & (image[i] == 0);
+        i += 1;
+    }
+    zero
+}
+
 // ---- from an image to the state in it
 
-fn take_places(image: &[u8], from: usize) -> [u32; MAX_NUMBERS]
-    requires { ⌜ from + numberWidth * maxNumbers ≤ length (now image) ⌝ }
-    ensures { λ r. ⌜ r ≡ placesAt (now (image .entry)) from ⌝ }
+// Reads the first `count` places of a list.
+fn take_places(image: &[u8], from: usize, count: usize, at: &mut [u32; MAX_NUMBERS])
+    requires { ⌜ (count ≤ maxNumbers) × (from + numberWidth * count ≤ length (now image)) ⌝ }
+    ensures { λ r. ⌜ now (at .exit) ≡ wordsAt (now (image .entry)) from count ++ drop count (now (at .entry)) ⌝ }
 {
-    let mut at = [0u32; MAX_NUMBERS];
     let mut i = 0;
-    while i < MAX_NUMBERS {
+    while i < count {
         at[i] = word(image, from + NUMBER_WIDTH * i);
         i += 1;
     }
-    at
 }
 
-fn take_list(image: &[u8], from: usize) -> Numbers
-    requires { ⌜ from + listWidth ≤ length (now image) ⌝ }
-    ensures { λ r. ⌜ r ≡ listAt (now (image .entry)) from ⌝ }
+// Reads a list into places that are 0, and returns its length. Where the unused places are 0, as they are in a sound image, only the others are read.
+fn take_list(image: &[u8], from: usize, at: &mut [u32; MAX_NUMBERS]) -> usize
+    requires { ⌜ (from + listWidth ≤ length (now image)) × (now at ≡ replicate maxNumbers 0) ⌝ }
+    ensures { λ r. ⌜ record { len = r; at = now (at .exit) } ≡ listAt (now (image .entry)) from ⌝ }
 {
-    let at = take_places(image, from + COUNT_BYTES);
-    Numbers {
-        len: word(image, from) as usize,
-        at,
+    let len = word(image, from) as usize;
+    let first = from + COUNT_BYTES;
+    if len <= MAX_NUMBERS {
+        if all_zero(
+            image,
+            first + NUMBER_WIDTH * len,
+            first + NUMBER_WIDTH * MAX_NUMBERS,
+        ) {
+            take_places(image, first, len, at);
+            return len;
+        }
     }
+    take_places(image, first, MAX_NUMBERS, at);
+    len
 }
 
-// The state in an image, sound or not.
-pub(crate) fn take_apart(image: &[u8]) -> State
-    requires { ⌜ length (now image) ≡ imageBytes ⌝ }
-    ensures { λ r. ⌜ r ≡ takenApart (now (image .entry)) ⌝ }
+// Takes the state in an image apart, sound or not, into its fields and into places that are 0.
+pub(crate) fn take_apart(
+    image: &[u8],
+    heard: &mut [u32; MAX_NUMBERS],
+    candidates: &mut [u32; MAX_NUMBERS],
+    echoes: &mut [u32; MAX_NUMBERS],
+) -> Fields
+    requires { ⌜ (length (now image) ≡ imageBytes) × (now heard ≡ replicate maxNumbers 0) × (now candidates ≡ replicate maxNumbers 0) × (now echoes ≡ replicate maxNumbers 0) ⌝ }
+    ensures { λ r. ⌜ stateOf r (now (heard .exit)) (now (candidates .exit)) (now (echoes .exit)) ≡ takenApart (now (image .entry)) ⌝ }
 {
-    let heard = take_list(image, HEARD_AT);
-    let candidates = take_list(image, CANDIDATES_AT);
-    let echoes = take_list(image, ECHOES_AT);
-    State {
+    let heard_len = take_list(image, HEARD_AT, heard);
+    let candidates_len = take_list(image, CANDIDATES_AT, candidates);
+    let echoes_len = take_list(image, ECHOES_AT, echoes);
+    Fields {
         own: word(image, OWN_AT),
         round: word(image, ROUND_AT),
         bit: image[BIT_AT],
@@ -71,26 +100,10 @@ pub(crate) fn take_apart(image: &[u8]) -> State
         strong: image[STRONG_AT],
         king: word(image, KING_AT),
         decision: image[DECISION_AT],
-        heard,
-        candidates,
-        echoes,
+        heard: heard_len,
+        candidates: candidates_len,
+        echoes: echoes_len,
     }
-}
-
-// Whether the reserved bytes are 0. Every byte is looked at, so that the loop has no way out to wait for.
-fn reserved_zero(image: &[u8]) -> bool
-    requires { ⌜ length (now image) ≡ imageBytes ⌝ }
-    ensures { λ r. ⌜ r ≡ zeros (drop reservedAt (now (image .entry))) ⌝ }
-{
-    let mut zero = true;
-    let mut i = RESERVED_AT;
-    while i < IMAGE_BYTES {
-        if image[i] != 0 {
-            zero = false;
-        }
-        i += 1;
-    }
-    zero
 }
 
 // What is left to test is the state.
@@ -98,7 +111,7 @@ pub(crate) fn is_shaped(image: &[u8]) -> bool
     ensures { λ r. ⌜ r ≡ shaped (now (image .entry)) ⌝ }
 {
     if image.len() == IMAGE_BYTES {
-        reserved_zero(image)
+        all_zero(image, RESERVED_AT, IMAGE_BYTES)
     } else {
         false
     }
@@ -108,7 +121,11 @@ pub(crate) fn is_sound_image(image: &[u8]) -> bool
     ensures { λ r. ⌜ r ≡ soundImage (now (image .entry)) ⌝ }
 {
     if is_shaped(image) {
-        is_sound(take_apart(image))
+        let mut heard = [0u32; MAX_NUMBERS];
+        let mut candidates = [0u32; MAX_NUMBERS];
+        let mut echoes = [0u32; MAX_NUMBERS];
+        let fields = take_apart(image, &mut heard, &mut candidates, &mut echoes);
+        is_sound(fields, &heard, &candidates, &echoes)
     } else {
         false
     }
@@ -116,67 +133,85 @@ pub(crate) fn is_sound_image(image: &[u8]) -> bool
 
 // ---- from a state to its image
 
-fn put_head(image: &mut [u8], state: State)
+fn put_head(image: &mut [u8], fields: Fields)
     requires { ⌜ heardAt ≤ length (now image) ⌝ }
-    ensures { λ r. ⌜ now (image .exit) ≡ sets (now (image .entry)) 0 (headBytes state) ⌝ }
+    ensures { λ r. ⌜ now (image .exit) ≡ sets (now (image .entry)) 0 (headBytes (stateOf fields [] [] [])) ⌝ }
 {
-    put_word(image, OWN_AT, state.own);
-    put_word(image, ROUND_AT, state.round);
-    image[BIT_AT] = state.bit;
-    image[SAID_AT] = state.said;
-    image[STRONG_AT] = state.strong;
-    put_word(image, KING_AT, state.king);
-    image[DECISION_AT] = state.decision;
+    put_word(image, OWN_AT, fields.own);
+    put_word(image, ROUND_AT, fields.round);
+    image[BIT_AT] = fields.bit;
+    image[SAID_AT] = fields.said;
+    image[STRONG_AT] = fields.strong;
+    put_word(image, KING_AT, fields.king);
+    image[DECISION_AT] = fields.decision;
 }
 
-fn put_places(image: &mut [u8], from: usize, list: Numbers)
-    requires { ⌜ from + numberWidth * maxNumbers ≤ length (now image) ⌝ }
-    ensures { λ r. ⌜ now (image .exit) ≡ sets (now (image .entry)) from (wordsBytes (list .at)) ⌝ }
+// Writes the first `len` places of a list.
+fn put_places(image: &mut [u8], from: usize, at: &[u32; MAX_NUMBERS], len: usize)
+    requires { ⌜ (len ≤ maxNumbers) × (from + numberWidth * len ≤ length (now image)) ⌝ }
+    ensures { λ r. ⌜ now (image .exit) ≡ sets (now (image .entry)) from (wordsBytes (take len (now (at .entry)))) ⌝ }
 {
     let mut i = 0;
-    while i < MAX_NUMBERS {
-        put_word(image, from + NUMBER_WIDTH * i, list.at[i]);
+    while i < len {
+        put_word(image, from + NUMBER_WIDTH * i, at[i]);
         i += 1;
     }
 }
 
-fn put_list(image: &mut [u8], from: usize, list: Numbers)
-    requires { ⌜ (from + listWidth ≤ length (now image)) × (list .len ≤ maxNumbers) ⌝ }
-    ensures { λ r. ⌜ now (image .exit) ≡ sets (now (image .entry)) from (listBytes list) ⌝ }
+// Sets the bytes from `from` to `to` to 0.
+fn clear(image: &mut [u8], from: usize, to: usize)
+    requires { ⌜ (from ≤ to) × (to ≤ length (now image)) ⌝ }
+    ensures { λ r. ⌜ now (image .exit) ≡ sets (now (image .entry)) from (replicate (to - from) 0) ⌝ }
 {
-    put_word(image, from, list.len as u32);
-    put_places(image, from + COUNT_BYTES, list);
-}
-
-fn put_zeros(image: &mut [u8])
-    requires { ⌜ length (now image) ≡ imageBytes ⌝ }
-    ensures { λ r. ⌜ now (image .exit) ≡ sets (now (image .entry)) reservedAt (zerosFrom reservedAt) ⌝ }
-{
-    let mut i = RESERVED_AT;
-    while i < IMAGE_BYTES {
+    let mut i = from;
+    while i < to {
         image[i] = 0;
         i += 1;
     }
 }
 
-fn put_lists(image: &mut [u8], state: State)
-    requires { ⌜ (sound state ≡ true) × (reservedAt ≤ length (now image)) ⌝ }
-    ensures { λ r. ⌜ now (image .exit) ≡ sets (sets (sets (now (image .entry)) heardAt (listBytes (state .heard))) candidatesAt (listBytes (state .candidates))) echoesAt (listBytes (state .echoes)) ⌝ }
+// Writes a list in its stored form, whose unused places are 0.
+fn put_list(image: &mut [u8], from: usize, at: &[u32; MAX_NUMBERS], len: usize)
+    requires { ⌜ (from + listWidth ≤ length (now image)) × (soundList (record { len = len; at = now at }) ≡ true) ⌝ }
+    ensures { λ r. ⌜ now (image .exit) ≡ sets (now (image .entry)) from (listBytes (record { len = len; at = now (at .entry) })) ⌝ }
 {
-    let heard = state.heard;
-    let candidates = state.candidates;
-    let echoes = state.echoes;
-    put_list(image, HEARD_AT, heard);
-    put_list(image, CANDIDATES_AT, candidates);
-    put_list(image, ECHOES_AT, echoes);
+    let first = from + COUNT_BYTES;
+    put_word(image, from, len as u32);
+    put_places(image, first, at, len);
+    clear(
+        image,
+        first + NUMBER_WIDTH * len,
+        first + NUMBER_WIDTH * MAX_NUMBERS,
+    );
 }
 
-// Every byte of the image, from a sound state.
-pub(crate) fn lay_out(state: State, image: &mut [u8])
-    requires { ⌜ (sound state ≡ true) × (length (now image) ≡ imageBytes) ⌝ }
-    ensures { λ r. ⌜ now (image .exit) ≡ laidOut state ⌝ }
+fn put_lists(
+    image: &mut [u8],
+    fields: Fields,
+    heard: &[u32; MAX_NUMBERS],
+    candidates: &[u32; MAX_NUMBERS],
+    echoes: &[u32; MAX_NUMBERS],
+)
+    requires { ⌜ (sound (stateOf fields (now heard) (now candidates) (now echoes)) ≡ true) × (reservedAt ≤ length (now image)) ⌝ }
+    ensures { λ r. ⌜ now (image .exit) ≡ sets (sets (sets (now (image .entry)) heardAt (listBytes (record { len = fields .heard; at = now (heard .entry) }))) candidatesAt (listBytes (record { len = fields .candidates; at = now (candidates .entry) }))) echoesAt (listBytes (record { len = fields .echoes; at = now (echoes .entry) })) ⌝ }
 {
-    put_head(image, state);
-    put_lists(image, state);
-    put_zeros(image);
+    put_list(image, HEARD_AT, heard, fields.heard);
+    put_list(image, CANDIDATES_AT, candidates, fields.candidates);
+    put_list(image, ECHOES_AT, echoes, fields.echoes);
+}
+
+// Every byte of the image, from a sound state in parts.
+pub(crate) fn lay_out(
+    fields: Fields,
+    heard: &[u32; MAX_NUMBERS],
+    candidates: &[u32; MAX_NUMBERS],
+    echoes: &[u32; MAX_NUMBERS],
+    image: &mut [u8],
+)
+    requires { ⌜ (sound (stateOf fields (now heard) (now candidates) (now echoes)) ≡ true) × (length (now image) ≡ imageBytes) ⌝ }
+    ensures { λ r. ⌜ now (image .exit) ≡ laidOut (stateOf fields (now (heard .entry)) (now (candidates .entry)) (now (echoes .entry))) ⌝ }
+{
+    put_head(image, fields);
+    put_lists(image, fields, heard, candidates, echoes);
+    clear(image, RESERVED_AT, IMAGE_BYTES);
 }

@@ -4,6 +4,7 @@ ghost use mathlib.Core.Path.{_≡_};
 ghost use Prim.Native.Nat.{_≤_};
 ghost use lib.ListN.{length};
 ghost use Rattle.wire.specs.Words.{wordAt};
+ghost use Rattle.controller.specs.Fields.{answerOf};
 ghost use Rattle.controller_c.specs.Calls.{StartImagePromise, TrayImagePromise, fieldOf, HandsOver, HandedOver};
 ghost use Rattle.controller_c.specs.Image.{echoesAt, soundImage, takenApart};
 use crate::image::is_shaped;
@@ -19,22 +20,32 @@ use crate::layout::KING_AT;
 use crate::layout::ROUND_AT;
 use crate::word::word;
 use controller::calls::start;
-use controller::state::Answer;
+use controller::calls::work;
+use controller::sound::fields_of;
+use controller::state::Worked;
+use wire::limits::MAX_NUMBERS;
 
 mod image;
 mod layout;
 mod word;
 
 // Hands a call's answer over: the state goes into the image unless the call was refused.
-fn hand_over(answer: Answer, image: &mut [u8], written: &mut usize) -> u8
-    requires { ⌜ HandsOver answer (length (now image)) ⌝ }
-    ensures { λ r. ⌜ HandedOver answer (now (image .entry)) r (now (image .exit)) (now (written .exit)) ⌝ }
+fn hand_over(
+    worked: Worked,
+    heard: &[u32; MAX_NUMBERS],
+    candidates: &[u32; MAX_NUMBERS],
+    echoes: &[u32; MAX_NUMBERS],
+    image: &mut [u8],
+    written: &mut usize,
+) -> u8
+    requires { ⌜ HandsOver (answerOf worked (now heard) (now candidates) (now echoes)) (length (now image)) ⌝ }
+    ensures { λ r. ⌜ HandedOver (answerOf worked (now (heard .entry)) (now (candidates .entry)) (now (echoes .entry))) (now (image .entry)) r (now (image .exit)) (now (written .exit)) ⌝ }
 {
-    *written = answer.length;
-    let refusal = answer.refusal;
+    *written = worked.length;
+    let refusal = worked.refusal;
     if refusal == 0 {
-        let state = answer.state;
-        lay_out(state, image);
+        let fields = worked.fields;
+        lay_out(fields, heard, candidates, echoes, image);
     }
     refusal
 }
@@ -59,7 +70,24 @@ pub extern "C" fn controller_start(
     ensures { λ r. ⌜ StartImagePromise number bit (now (image .entry)) (now (out .entry)) r (now (image .exit)) (now (out .exit)) (now (written .exit)) ⌝ }
 {
     if image.len() == IMAGE_BYTES {
-        hand_over(start(number, bit, out), image, written)
+        let answer = start(number, bit, out);
+        let state = answer.state;
+        let heard = state.heard;
+        let candidates = state.candidates;
+        let echoes = state.echoes;
+        let worked = Worked {
+            refusal: answer.refusal,
+            fields: fields_of(state),
+            length: answer.length,
+        };
+        hand_over(
+            worked,
+            &heard.at,
+            &candidates.at,
+            &echoes.at,
+            image,
+            written,
+        )
     } else {
         no_image(written)
     }
@@ -76,11 +104,19 @@ pub extern "C" fn controller_tray(
     ensures { λ r. ⌜ TrayImagePromise (now (image .entry)) (now (tray .entry)) (now (out .entry)) r (now (image .exit)) (now (out .exit)) (now (written .exit)) ⌝ }
 {
     if is_shaped(image) {
-        hand_over(
-            controller::calls::tray(take_apart(image), tray, out),
-            image,
-            written,
-        )
+        let mut heard = [0u32; MAX_NUMBERS];
+        let mut candidates = [0u32; MAX_NUMBERS];
+        let mut echoes = [0u32; MAX_NUMBERS];
+        let fields = take_apart(image, &mut heard, &mut candidates, &mut echoes);
+        let worked = work(
+            fields,
+            &mut heard,
+            &mut candidates,
+            &mut echoes,
+            tray,
+            out,
+        );
+        hand_over(worked, &heard, &candidates, &echoes, image, written)
     } else {
         no_image(written)
     }
