@@ -118,6 +118,11 @@ module _ {s : State} {b f : List ℕ} (r : Ready s b f) where
         omega (arith, counts .ones, count-length (λ (x : ℕ). says k 1 (received v es x)) (heardAfter v es)),
       )
 
+  -- making round 3 the bit stays: nobody has been king
+  pub first-taken : s .round < 3 → s .bit ≡ bitTaken (view s) (entries b)
+  unfolding bitTaken
+  first-taken h = let none : s .round / 3 ≡ 0 = omega arith in rw none
+
   roster-few : length (roster (view s) (entries b)) ≤ maxNumbers
   unfolding roster
   roster-few = omega (arith, keep-length (λ (x : ℕ). says 1 2 (received (view s) (entries b) x)) (heardAfter (view s) (entries b)), ready-short r)
@@ -220,11 +225,6 @@ module _ {s : State} {b f : List ℕ} (r : Ready s b f) where
         candidates = candidates i;
         echoes = echoes i;
       })
-
--- making round 3 the bit stays: nobody has been king
-pub first-taken : (s : State) (es : List Entry) → s .round < 3 → s .bit ≡ bitTaken (view s) es
-unfolding bitTaken
-first-taken s es h = let none : s .round / 3 ≡ 0 = omega arith in rw none
 
 module _ {s : State} {b f : List ℕ} {l : Lists} {bit : ℕ} {c e : List ℕ} (g : Grows s b f l bit c e) where
   pub value-made : (t : State) → l .fits ≡ true → t ≡ namedState (grownState s l bit c e) (s .decision) (s .round / 3) → Makes s b true t

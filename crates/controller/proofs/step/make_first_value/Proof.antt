@@ -13,7 +13,7 @@ grown-requires c κs = (omega (arith, c .before .before .before .before .before 
 returns : tie.Need-returns
 returns c =
     let pre = c .before .before .before .before .before .before .pre in
-    c .grown .ensures _ _ _ _ _ _ (record { ready = pre .0; kind = pre .1; taken = first-taken _ _ (pre .2); lists = c .before .before .grow .ensures })
+    c .grown .ensures _ _ _ _ _ _ (record { ready = pre .0; kind = pre .1; taken = first-taken (pre .0) (pre .2); lists = c .before .before .grow .ensures })
 
 pub make-first-value-spec : {M : Type 1} → statement M
 make-first-value-spec = tie.close (tie.spec grow-requires grown-requires returns)
