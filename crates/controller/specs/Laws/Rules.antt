@@ -1,7 +1,7 @@
 -- Laws of one step: which bullet makes which round, each field of the next state, and that a step that is not refused keeps soundness.
 use Prim.Native.Nat.{ℕ, _+_, _*_, _-_, _/_, _%_, _<_, _≤_}
 use mathlib.Core.Bool.{Bool, true, false, not, cond, _&&_, and-false, and-eq-true-iff}
-use mathlib.Core.List.{List, Memᴰ·cast}
+use mathlib.Core.List.{List, [], _∷_, Memᴰ·cast}
 use mathlib.Core.Logic.{inl, inr}
 use mathlib.Core.Path.{_≡_, refl, sym}
 use native.Mathlib.Decide.{ℕ-discrete}
@@ -12,13 +12,13 @@ use lib.ListN.{length}
 use Rattle.wire.specs.Frame.{kindOf, bitFits}
 use Rattle.wire.specs.Limits.{maxNumbers, lastRound}
 use Rattle.wire.specs.Tray.{Entry}
-use Rattle.controller.specs.Lists.{In, Rising}
-use Rattle.controller.specs.State.{View, undecided}
-use Rattle.controller.specs.Received.{senders, heardAfter}
-use Rattle.controller.specs.Rotation.{phase, decides, candidatesAfter}
+use Rattle.controller.specs.Lists.{In, Inside, Rising}
+use Rattle.controller.specs.State.{View, undecided, withHeard}
+use Rattle.controller.specs.Received.{frameOf, senders, heardAfter, received}
+use Rattle.controller.specs.Rotation.{roster, phase, tally, allLists, listed, echoed, joined, candidatesAfter, decides, kingAfter}
 use Rattle.controller.specs.Bit.{kingOpinion, bitTaken, decisionAfter, valueTwoThirds, proposalThird, proposalTwoThirds, proposal, bitAdopted, strongAfter, opinion}
 use Rattle.controller.specs.Rules.{makeRoster, makeValue, makePropose, makeTurn, next}
-use Rattle.controller.specs.Laws.Lists.{true-or-false}
+use Rattle.controller.specs.Laws.Lists.{true-or-false, rising-same}
 use Rattle.controller.specs.Laws.State.{Sound}
 use Rattle.controller.specs.Laws.Received.{heard-in, heard-rising}
 use Rattle.controller.specs.Laws.Rotation.{roster-in, roster-rising, echoed-rising, echoed-positive, candidates-rising, candidates-positive}
@@ -38,6 +38,25 @@ kind-above t l = rw (ne-eqb t 1 (λ q. omega arith)) (pick (eqb t 2))
     pick : (a : Bool) → 2 ≤ cond a 2 (3 + t % 3)
     pick true = omega arith
     pick false = omega arith
+
+-- round 2 alone has kind 2
+pub kind-init : (t : ℕ) → 1 ≤ t → kindOf (t + 1) ≡ 2 → t ≡ 1
+kind-init t l k = elim (ℕ-discrete t 1) [
+  | yes e ↦ e
+  | no d ↦ absurd (omega (arith, kind-later (t + 1) ((t + 1) % 3) (omega arith) refl))
+]
+
+-- a roster follows an init, a propose a value, and a turn a propose
+pub kind-first : (t : ℕ) → 1 ≤ t → kindOf (t + 1) ≡ 2 → kindOf t ≡ 1
+unfolding kindOf
+kind-first t l k = rw (kind-init t l k)
+
+pub kind-before : (t k : ℕ) → 1 ≤ t → kindOf (t + 1) ≡ 4 + k → kindOf t ≡ 3 + k
+unfolding kindOf
+kind-before t k l e = elim (ℕ-discrete t 1) [
+  | yes o ↦ let two : kindOf (t + 1) ≡ 2 = rw o in absurd (omega arith)
+  | no d ↦ let later : kindOf (t + 1) ≡ 3 + (t + 1) % 3 = kind-later (t + 1) ((t + 1) % 3) (omega arith) refl in kind-later t k (omega arith) (omega arith)
+]
 
 pub next-roster : (v : View) (es : List Entry) → v .round ≡ 1 → next v es ≡ makeRoster v es
 unfolding next kindOf
@@ -176,6 +195,13 @@ said-bit : (v : View) (es : List Entry) → kindOf ((next v es) .round) ≡ 3 �
 unfolding next
 said-bit v es e = let k : kindOf (v .round + 1) ≡ 3 = rw (next-round v es) at e in rw k
 
+-- senders that are all heard change nothing
+pub heard-known : (v : View) (es : List Entry) → Rising (v .heard) → Inside (senders es) (v .heard) → heardAfter v es ≡ v .heard
+heard-known v es up known =
+    rising-same (heardAfter v es) (v .heard) (heard-rising v es up) up
+    (λ x i. elim (heard-in v es .0 i) [ inl j ↦ known x j | inr j ↦ j ])
+    (λ x i. heard-in v es .1 (inr i))
+
 pub heard-positive : (v : View) (es : List Entry) → Sound v → (¬ In 0 (senders es)) → (x : ℕ) → In x (heardAfter v es) → 0 < x
 heard-positive v es h z x i = elim (heard-in v es .0 i) [
   | inl j ↦ elim (ℕ-discrete x 0) [ yes e ↦ absurd (z (Memᴰ·cast (sym e) j)) | no d ↦ omega arith ]
@@ -228,3 +254,74 @@ last-round-decides v es h e l =
       | inl u ↦ rw (u, le-leb (length (candidatesAfter v es)) (phase v) (omega (arith, phase-is v 64 t))) (ne-eqb (bitTaken v es) 2 (λ q. omega arith))
       | inr u ↦ rw u u
     ])
+
+-- ---- a state that has already heard the tray's senders takes the same step
+
+module _ (v : View) (es : List Entry) (up : Rising (v .heard)) where
+  hears : heardAfter (withHeard (heardAfter v es) v) es ≡ heardAfter v es
+  hears = heard-known (withHeard (heardAfter v es) v) es (heard-rising v es up) (λ x i. heard-in v es .1 (inl i))
+
+  lists-heard : (l : List ℕ) → allLists (withHeard (heardAfter v es) v) es l ≡ allLists v es l
+  unfolding received frameOf
+  lists-heard [] = refl
+  lists-heard (x ∷ l) = rw (lists-heard l)
+
+  listed-heard : listed (withHeard (heardAfter v es) v) es ≡ listed v es
+  unfolding listed
+  listed-heard = rw (hears, lists-heard (heardAfter v es))
+
+  roster-heard : roster (withHeard (heardAfter v es) v) es ≡ roster v es
+  unfolding roster received frameOf
+  roster-heard = rw hears
+
+  echoed-heard : echoed (withHeard (heardAfter v es) v) es ≡ echoed v es
+  unfolding echoed tally received frameOf
+  echoed-heard = rw (listed-heard, hears)
+
+  candidates-heard : candidatesAfter (withHeard (heardAfter v es) v) es ≡ candidatesAfter v es
+  unfolding candidatesAfter joined tally received frameOf
+  candidates-heard = rw (listed-heard, hears)
+
+  king-heard : kingAfter (withHeard (heardAfter v es) v) es ≡ kingAfter v es
+  unfolding kingAfter decides
+  king-heard = rw candidates-heard
+
+  taken-heard : bitTaken (withHeard (heardAfter v es) v) es ≡ bitTaken v es
+  unfolding bitTaken received frameOf
+  taken-heard = refl
+
+  decision-heard : decisionAfter (withHeard (heardAfter v es) v) es ≡ decisionAfter v es
+  unfolding decisionAfter decides
+  decision-heard = rw (candidates-heard, taken-heard)
+
+  proposal-heard : proposal (withHeard (heardAfter v es) v) es ≡ proposal v es
+  unfolding proposal valueTwoThirds received frameOf
+  proposal-heard = rw hears
+
+  adopted-heard : bitAdopted (withHeard (heardAfter v es) v) es ≡ bitAdopted v es
+  unfolding bitAdopted proposalThird received frameOf
+  adopted-heard = rw hears
+
+  strong-heard : strongAfter (withHeard (heardAfter v es) v) es ≡ strongAfter v es
+  unfolding strongAfter proposalTwoThirds received frameOf
+  strong-heard = rw (hears, adopted-heard)
+
+  opinion-heard : opinion (withHeard (heardAfter v es) v) es ≡ opinion v es
+  unfolding opinion
+  opinion-heard = rw adopted-heard
+
+  pub next-already-heard : next (withHeard (heardAfter v es) v) es ≡ next v es
+  unfolding next
+  next-already-heard = rw (
+    roster-heard,
+    taken-heard,
+    king-heard,
+    decision-heard,
+    candidates-heard,
+    echoed-heard,
+    proposal-heard,
+    opinion-heard,
+    strong-heard,
+    adopted-heard,
+    hears,
+  )

@@ -1,19 +1,34 @@
 -- `controller::step::make_turn` meets its contract: the turn's bit, strong and said, and all other fields as they were, are the state of `makeTurn`.
 use native.Mathlib.Omega.{arith}
-use borrow.Author.Needs.{needs}
+use denote.Ref.{now}
+use Rattle.wire.specs.Tray.{entries}
+use Rattle.controller.specs.Laws.Ready.{ready-few, ready-size}
+use Rattle.controller.specs.Laws.Rules.{kind-before}
 use Rattle.controller.specs.Laws.State.{sound-gives}
-use Rattle.controller.specs.Laws.Step.{turn-made}
+use Rattle.controller.specs.Laws.Step.{counts-few, turn-made}
 use Rattle.controller.proofs.step.make_turn.Statement.{statement}
 use Rattle.controller.proofs.step.make_turn.Tie as tie
 
+abbrev given : tie.After-struct-known → tie.Start
+given c = c .before .before .before .before
+
+count-bits-requires : tie.Need-count-bits-requires
+count-bits-requires c κs = ready-few (c .before .pre .1 .2)
+
 spoken-requires : tie.Need-spoken-requires
-spoken-requires c κs = search needs
+spoken-requires c κs =
+    let ready = c .before .before .pre .1 .2 in
+    let few = counts-few ready (c .count-bits .ensures _ _ ready) in
+    (few .0, few .1, ready-few ready)
 
 add-next : tie.Need-add-next
-add-next c = omega (arith, sound-gives _ (c .before .before .before .pre .0 .sound) .late)
+add-next c = omega (arith, (given c) .pre .0)
 
 returns : tie.Need-returns
-returns c = turn-made (c .before .before .before .pre .0) (c .before .spoken .result) (c .before .before .before .pre .1) (c .before .spoken .ensures)
+returns c = λ w e ready k.
+    let proposals = rw (kind-before _ 1 (sound-gives _ (ready .sound) .early) k) at (c .before .before .count-bits .ensures w e ready) in
+    turn-made ready (c .before .spoken .result) k
+    (c .before .spoken .ensures (now ((given c) .args .heard)) w e (entries (now ((given c) .args .tray))) proposals (ready-size ready))
 
 pub make-turn-spec : {M : Type 1} → statement M
-make-turn-spec = tie.close (tie.spec spoken-requires add-next returns)
+make-turn-spec = tie.close (tie.spec count-bits-requires spoken-requires add-next returns)

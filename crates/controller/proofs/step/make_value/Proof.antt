@@ -1,42 +1,22 @@
--- `controller::step::make_value` meets its contract: lists that fit are those of `makeValue`, and so are the bit and what (c) makes of them; lists that do not are refused.
-use native.Mathlib.Omega.{arith}
-use borrow.Author.Needs.{needs}
-use Rattle.controller.specs.Laws.State.{sound-gives}
-use Rattle.controller.specs.Laws.Step.{grown-stored, value-made, value-refused}
+-- `controller::step::make_value` meets its contract: the lists have grown, and the bit is the one taken.
+use Rattle.controller.specs.Laws.State.{sound-heard}
 use Rattle.controller.proofs.step.make_value.Statement.{statement}
 use Rattle.controller.proofs.step.make_value.Tie as tie
 
-cast-phase : tie.Need-cast-phase
-cast-phase c = search needs
-
 bit-taken-requires : tie.Need-bit-taken-requires
-bit-taken-requires c κs = search needs
+bit-taken-requires c κs = sound-heard _ (c .before .pre .0 .sound)
 
 grow-requires : tie.Need-grow-requires
-grow-requires c κs = search needs
+grow-requires c κs = c .before .before .before .before .pre .0
 
-add-next : tie.Need-add-next
-add-next c = omega (arith, sound-gives _ (c .before .before .before .before .before .before .before .before .pre .0 .sound) .late)
-
-named-requires : tie.Need-named-requires
-named-requires c κs = grown-stored (c .before .before .before .before .grow .ensures) (c .before .if1 .taken)
+grown-requires : tie.Need-grown-requires
+grown-requires c κs = (c .before .before .before .before .before .before .pre .2, c .before .grow .ensures .few)
 
 returns : tie.Need-returns
 returns c =
-    value-made (c .before .before .before .before .before .before .before .before .before .pre .0) (c .before .before .before .before .before .before .bit-taken .result) (c .before .before .before .before .before .grow .result) _
-    (c .before .before .before .before .before .before .before .before .before .pre .1) (c .before .before .before .before .before .before .bit-taken .ensures) (c .before .before .before .before .before .grow .ensures) (c .before .before .if1 .taken) (c .named .ensures)
-
-returns-2 : tie.Need-returns-2
-returns-2 c = value-refused (c .before .before .before .before .before .before .before .pre .0) (c .before .before .before .grow .result) _ (c .before .before .before .before .before .before .before .pre .1) (c .before .before .before .grow .ensures) (c .if1 .left)
+    let pre = c .before .before .before .before .before .before .before .pre in
+    let taken = c .before .before .before .before .before .bit-taken .ensures _ _ (pre .0) (pre .1) in
+    c .grown .ensures _ _ _ _ _ _ (record { ready = pre .0; kind = pre .1; taken = taken; lists = c .before .before .grow .ensures })
 
 pub make-value-spec : {M : Type 1} → statement M
-make-value-spec =
-    tie.close
-    (tie.spec
-    cast-phase
-    bit-taken-requires
-    grow-requires
-    add-next
-    named-requires
-    returns
-    returns-2)
+make-value-spec = tie.close (tie.spec bit-taken-requires grow-requires grown-requires returns)

@@ -15,15 +15,15 @@ king-at-requires c κs = search needs
 
 returns : tie.Need-returns
 unfolding namedState
-returns c = rw (sym (c .before .decides .ensures) ∙ c .if1 .taken, and-false)
+returns c = λ h e. rw (sym (c .before .decides .ensures) ∙ c .if1 .taken, and-false)
 
 returns-2 : tie.Need-returns-2
 unfolding namedState
-returns-2 c = rw (sym (c .before .before .before .before .decides .ensures) ∙ c .before .before .before .if1 .left, eq-eqb _ _ (c .before .if2 .taken), c .king-at .ensures)
+returns-2 c = λ h e. rw (sym (c .before .before .before .decides .ensures) ∙ c .before .before .if1 .left, eq-eqb _ _ (c .before .if2 .taken), c .king-at .ensures)
 
 returns-3 : tie.Need-returns-3
 unfolding namedState
-returns-3 c = rw (sym (c .before .before .before .decides .ensures) ∙ c .before .before .if1 .left, ne-eqb _ _ (c .if2 .left))
+returns-3 c = λ h e. rw (sym (c .before .before .decides .ensures) ∙ c .before .if1 .left, ne-eqb _ _ (c .if2 .left))
 
 pub named-spec : {M : Type 1} → statement M
 named-spec = tie.close (tie.spec decides-requires king-at-requires returns returns-2 returns-3)

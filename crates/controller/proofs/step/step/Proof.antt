@@ -1,83 +1,88 @@
--- `controller::step::step` meets its contract: what it requires and the first entries make it ready, and the kind of the next round picks the bullet.
-use Prim.Native.Nat.{_+_}
-use mathlib.Core.Logic.{inl}
+-- `controller::step::step` meets its contract: the kind of the next round picks the bullet.
+use Prim.Native.Nat.{ℕ, _+_}
 use mathlib.Core.Path.{_≡_, sym, _∙_}
 use native.Mathlib.Omega.{arith}
 use borrow.Author.Needs.{needs}
-use denote.Ref.{now}
-use Rattle.controller.specs.Laws.Received.{heard-in}
+use Rattle.controller.specs.Laws.Ready.{ready-few}
 use Rattle.controller.specs.Laws.Rules.{kind-above}
 use Rattle.controller.specs.Laws.State.{sound-gives}
-use Rattle.controller.specs.Laws.Step.{Heard, heard-stored, ready-found}
-use Rattle.controller.specs.State.{view}
-use Rattle.controller.specs.Storage.{Ready}
+use Rattle.controller.specs.Laws.Step.{echoes-empty}
 use Rattle.wire.specs.Frame.{kindOf}
 use Rattle.wire.specs.Laws.Frame.{kind-range}
-use Rattle.wire.specs.Tray.{entries}
 use Rattle.controller.proofs.step.step.Statement.{statement}
 use Rattle.controller.proofs.step.step.Tie as tie
 
--- those heard
-found : (c : tie.Start) → Heard (view (c .args .state)) (entries (now (c .args .tray))) (c .args .heard)
-found c = heard-stored _ _ _ (sound-gives _ (c .pre .0)) (c .pre .5) (c .pre .3) (c .pre .4)
+abbrev given : tie.After-kind-of → tie.Start
+given c = c .before .before .before
 
-ready : (c : tie.After-first-entries) → Ready (c .before .before .args .state) (now (c .before .before .args .tray)) (c .before .before .args .heard) (c .first-entries .result)
-ready c = let given = c .before .before .pre in ready-found _ _ _ _ (given .0) (given .2) (given .5) (given .3) (given .4) (c .first-entries .ensures)
+kind-is : (c : tie.After-kind-of) (k : ℕ) → c .kind-of .result ≡ k → kindOf ((given c) .args .fields .round + 1) ≡ k
+kind-is c k e = sym (c .kind-of .ensures) ∙ e
 
 -- a round after the first whose kind is none of 2, 3, 4
-turns : (c : tie.Else3) → kindOf (c .before .before .before .before .before .before .before .args .state .round + 1) ≡ 5
+turns : (c : tie.Else4) → kindOf ((given (c .before .before .before)) .args .fields .round + 1) ≡ 5
 turns c =
+    let start = given (c .before .before .before) in
     let kind = c .before .before .before .kind-of .ensures in
-    let t = c .before .before .before .before .before .before .before .args .state .round in
-    let early = sound-gives _ (c .before .before .before .before .before .before .before .pre .0) .early in
+    let t = start .args .fields .round in
+    let early = sound-gives _ (start .pre .0 .sound) .early in
     let range = kind-range (t + 1) in
-    omega (arith, kind, kind-above (t + 1) (omega arith), range .1, c .before .before .if1 .left, c .before .if2 .left, c .if3 .left)
-
-first-entries-requires : tie.Need-first-entries-requires
-first-entries-requires c κs = (c .before .pre .2, found (c .before) .sound, λ x i. rw (found (c .before) .list) (heard-in _ _ .1 (inl i)))
+    omega (arith, kind, kind-above (t + 1) (omega arith), range .1, c .before .before .if1 .left, c .before .if2 .left, c .if4 .left)
 
 add-kind-of : tie.Need-add-kind-of
-add-kind-of c = search needs
+add-kind-of c = omega (arith, c .before .before .pre .1)
 
 kind-of-requires : tie.Need-kind-of-requires
 kind-of-requires c κs = search needs
 
 make-roster-requires : tie.Need-make-roster-requires
-make-roster-requires c κs = (ready (c .before .before .before), sym (c .before .kind-of .ensures) ∙ c .if1 .taken)
+make-roster-requires c κs =
+    let pre = c .before .before .before .before .before .pre in
+    (ready-few (pre .0), pre .1, echoes-empty (pre .0) (kind-is (c .before .before) 2 (c .before .if1 .taken)))
+
+make-first-value-requires : tie.Need-make-first-value-requires
+make-first-value-requires c κs =
+    let kind = c .before .before .before .before .before .before in
+    ((given kind) .pre .0, kind-is kind 3 (c .before .before .before .before .if2 .taken), c .before .before .if3 .taken)
 
 make-value-requires : tie.Need-make-value-requires
-make-value-requires c κs = (ready (c .before .before .before .before), sym (c .before .before .kind-of .ensures) ∙ c .if2 .taken)
+make-value-requires c κs =
+    let kind = c .before .before .before .before .before .before in
+    ((given kind) .pre .0, kind-is kind 3 (c .before .before .before .before .if2 .taken), (given kind) .pre .1)
 
 make-propose-requires : tie.Need-make-propose-requires
-make-propose-requires c κs = (ready (c .before .before .before .before .before), sym (c .before .before .before .kind-of .ensures) ∙ c .if3 .taken)
+make-propose-requires c κs = let pre = (given (c .before .before .before)) .pre in (pre .1, (_, _, pre .0))
 
 make-turn-requires : tie.Need-make-turn-requires
-make-turn-requires c κs = (ready (c .before .before .before .before .before), turns c)
+make-turn-requires c κs = let pre = (given (c .before .before .before)) .pre in (pre .1, (_, _, pre .0))
 
 returns : tie.Need-returns
-returns c = search needs
+returns c = let kind = c .before .before .before in c .make-roster .ensures _ ((given kind) .pre .0) (kind-is kind 2 (c .before .before .if1 .taken))
 
 returns-2 : tie.Need-returns-2
-returns-2 c = search needs
+returns-2 c = c .make-first-value .ensures
 
 returns-3 : tie.Need-returns-3
-returns-3 c = search needs
+returns-3 c = c .make-value .ensures
 
 returns-4 : tie.Need-returns-4
-returns-4 c = search needs
+returns-4 c = let kind = c .before .before .before .before in c .make-propose .ensures _ _ ((given kind) .pre .0) (kind-is kind 4 (c .before .if4 .taken))
+
+returns-5 : tie.Need-returns-5
+returns-5 c = c .make-turn .ensures _ _ ((given (c .before .before .before .before)) .pre .0) (turns (c .before))
 
 pub step-spec : {M : Type 1} → statement M
 step-spec =
     tie.close
     (tie.spec
-    first-entries-requires
     add-kind-of
     kind-of-requires
     make-roster-requires
+    make-first-value-requires
     make-value-requires
     make-propose-requires
     make-turn-requires
     returns
     returns-2
     returns-3
-    returns-4)
+    returns-4
+    returns-5)
