@@ -1,31 +1,53 @@
 -- How an answer meets a call's promise.
 --     senders-numbered    a tray that passes test 6 has no sender 0
 --     promise-refused     a refusal returns the state that is kept, length 0, and leaves the buffer
---     promise-accepted    what is promised of a call that is not refused does not depend on the state that a refusal would keep
+--     promise-left        a refusal in place leaves the fields, the lists' places and the buffer
+--     promise-sent        a call that is not refused returns the state that is made, and sends its frame
+--     promise-worked      what is promised of a call that is not refused does not depend on the state that a refusal would keep
+--     tests-left          of a tray that has passed tests 1 to 5, the tests that are left
 use Prim.Native.Nat.{ℕ}
-use mathlib.Core.Bool.{true, false, not, and-eq-true-iff}
+use mathlib.Core.Bool.{true, false, not, cond, and-eq-true-iff}
 use mathlib.Core.List.{List}
 use mathlib.Core.Path.{_≡_, refl, sym, ap, _∙_}
-use borrow.Author.Tests.{not-true}
+use borrow.Author.Tests.{not-true, lt-ltb, le-leb, eq-eqb}
 use lib.Dec.{eqb}
-use Rattle.wire.specs.Tray.{entries}
+use Rattle.wire.specs.Limits.{maxFrame, lastRound}
+use Rattle.wire.specs.Tray.{entries, roundOf}
+use Rattle.controller.specs.Fields.{stateOf, answerOf}
 use Rattle.controller.specs.Lists.{In, mem}
 use Rattle.controller.specs.Received.{senders}
-use Rattle.controller.specs.Refusals.{sendersFit}
+use Rattle.controller.specs.Refusals.{trayRefusal, sendersFit, heardFit, listsFit}
 use Rattle.controller.specs.Laws.Lists.{mem-out}
-use Rattle.controller.specs.State.{View, view}
+use Rattle.controller.specs.State.{View, view, image}
+use Rattle.controller.specs.Storage.{Checked, Sends}
 use Rattle.controller.specs.Calls.{Promise}
 use Rattle.controller.specs.declared.state.State.{State}
 use Rattle.controller.specs.declared.state.Answer.{Answer}
+use Rattle.controller.specs.declared.state.Fields.{Fields}
+use Rattle.controller.specs.declared.state.Worked.{Worked}
 
 pub promise-refused : (n k : ℕ) (v : View) (s : State) (b : List ℕ) (r : Answer) → n ≡ k → eqb k 0 ≡ false → r ≡ record { refusal = k; state = s; length = 0 } → Promise n v s b r b
 promise-refused n k v s b r e z a = record { number = rw (a, e); state = rw (a, e, z); written = rw (a, e, z); output = rw (e, z) }
 
-pub promise-accepted : (n : ℕ) (v w : View) (s u : State) (b : List ℕ) (r : Answer) (a : List ℕ) → n ≡ 0 → v ≡ w → Promise 0 v s b r a → Promise n w u b r a
-promise-accepted n v w s u b r a e q p =
-    record { number = p .number ∙ sym e; state = rw (e, ← q) (p .state); written = rw (e, ← q) (p .written); output = rw (e, ← q) (p .output) }
+pub promise-left : (n k : ℕ) (v : View) (f : Fields) (h c e b : List ℕ) (w : Worked) → n ≡ k → eqb k 0 ≡ false → w ≡ record { refusal = k; fields = f; length = 0 }
+    → Promise n v (stateOf f h c e) b (answerOf w h c e) b
+promise-left n k v f h c e b w q z a = promise-refused n k v (stateOf f h c e) b (answerOf w h c e) q z (ap (λ (u : Worked). answerOf u h c e) a)
+
+pub promise-sent : (n : ℕ) (v : View) (s t : State) (b : List ℕ) (l : ℕ) (a : List ℕ) → n ≡ 0 → t ≡ image v → Sends v b l a
+    → Promise n v s b (record { refusal = 0; state = t; length = l }) a
+promise-sent n v s t b l a e made sent = record { number = sym e; state = rw e made; written = rw e (sent .written); output = rw e (sent .output) }
+
+pub promise-worked : (n : ℕ) (v : View) (s t : State) (b : List ℕ) (r : Answer) (a : List ℕ) → r .refusal ≡ 0 → Promise n v s b r a → Promise n v t b r a
+promise-worked n v s t b r a z p =
+    let none : n ≡ 0 = sym (p .number) ∙ z in
+    record { number = p .number; state = rw none (rw none at (p .state)); written = p .written; output = p .output }
 
 pub senders-numbered : (s : State) (b : List ℕ) → sendersFit (view s) (entries b) ≡ true → ¬ In 0 (senders (entries b))
 senders-numbered s b h =
     let both = and-eq-true-iff (not (mem 0 (senders (entries b)))) (not (mem (s .own) (senders (entries b)))) .0 h in
     mem-out (senders (entries b)) (not-true _ (both .0))
+
+pub tests-left : {s : State} {b : List ℕ} {n : ℕ} → Checked s b n
+    → trayRefusal s b n ≡ cond (sendersFit (view s) (entries b)) (cond (heardFit (view s) (entries b)) (cond (listsFit (view s) (entries b)) 0 8) 7) 6
+unfolding trayRefusal
+tests-left {s} {b} {n} k = rw (k .sound, lt-ltb (s .round) lastRound (k .early), le-leb maxFrame n (k .room), k .packed, eq-eqb (roundOf b) (s .round) (k .round))

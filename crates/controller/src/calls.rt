@@ -105,8 +105,8 @@ fn sent_count(kind: u8, len: usize) -> usize
 }
 
 // Writes the frame that is sent with a state, and returns its length.
-fn send(fields: Fields, echoes: &[u32; MAX_NUMBERS], out: &mut [u8]) -> usize
-    requires { ⌜ (maxFrame ≤ length (now out)) × (fields .echoes ≤ maxNumbers) ⌝ }
+fn send(fields: Fields, echoes: &[u32], out: &mut [u8]) -> usize
+    requires { ⌜ (maxFrame ≤ length (now out)) × (fields .echoes ≤ length (now echoes)) ⌝ }
     ensures { λ r. ⌜ ((h c : List ℕ) → sound (stateOf fields h c (now (echoes .entry))) ≡ true → Sends (view (stateOf fields h c (now (echoes .entry)))) (now (out .entry)) r (now (out .exit))) ⌝ }
 {
     let round = fields.round;

@@ -1,111 +1,67 @@
--- `controller::calls::checked_tray` meets its contract: each test that fails gives `trayRefusal` its number; `heard_tray` has the last.
-use Prim.Native.Nat.{ℕ}
-use mathlib.Core.Bool.{true, false}
-use mathlib.Core.List.{List}
-use mathlib.Core.Path.{_≡_, refl, sym, _∙_}
+-- `controller::calls::checked_tray` meets its contract: where all senders are heard the step has the last test; else `new_tray` has the tests that are left.
+use mathlib.Core.Path.{sym, _∙_}
 use borrow.Author.Needs.{needs}
-use borrow.Author.Tests.{lt-ltb, le-leb, eq-eqb}
-use denote.Ref.{now}
+use lib.ListN.{getD-replicate}
 use Rattle.controller.specs.Laws.State.{sound-heard}
-use Rattle.controller.specs.Laws.Storage.{grown-test, grown-list}
-use Rattle.controller.specs.Lists.{insertAll}
-use Rattle.controller.specs.Received.{senders, heardAfter}
-use Rattle.controller.specs.Refusals.{trayRefusal, sendersFit, heardFit}
-use Rattle.controller.specs.State.{view, sound}
-use Rattle.controller.specs.Storage.{Checked, grown}
-use Rattle.controller.specs.declared.lists.Grown.{Grown}
-use Rattle.controller.specs.declared.state.State.{State}
-use Rattle.wire.specs.Limits.{maxFrame, lastRound}
-use Rattle.wire.specs.Numbers.{stored, listed}
-use Rattle.wire.specs.Tray.{roundOf, entries}
-use Rattle.wire.specs.declared.frame.Numbers.{Numbers}
-use Rattle.controller.proofs.Promises.{senders-numbered, promise-refused}
+use Rattle.controller.specs.Laws.Step.{ready-found}
+use Rattle.controller.specs.Fields.{stateOf}
+use Rattle.controller.specs.Storage.{Ready}
+use denote.Ref.{now}
+use Rattle.controller.proofs.Heard.{known-passed}
 use Rattle.controller.proofs.calls.checked_tray.Statement.{statement}
 use Rattle.controller.proofs.calls.checked_tray.Tie as tie
 
-module _ (s : State) (b : List ℕ) where
-  -- what `heard_with` answers is heard after the tray
-  heard-test : (n : Numbers) (r : Grown) → r ≡ grown (insertAll (senders (entries b)) (listed (s .heard))) n → r .fits ≡ heardFit (view s) (entries b)
-  unfolding heardAfter
-  heard-test n r e = grown-test (heardAfter (view s) (entries b)) n r e
+-- what was given, and the entries that were found
+abbrev given : tie.After-first-entries → tie.Start
+given c = c .before .before .before .before .before .before
 
-  heard-is : (n : Numbers) (r : Grown) → r ≡ grown (insertAll (senders (entries b)) (listed (s .heard))) n → r .fits ≡ true
-      → r .list ≡ stored (heardAfter (view s) (entries b))
-  unfolding heardAfter
-  heard-is n r e f = grown-list (heardAfter (view s) (entries b)) n r e f
+ready : (c : tie.Then1) → let a = given (c .before) .args in Ready (stateOf (a .fields) (now (a .heard)) (now (a .candidates)) (now (a .echoes))) (now (a .tray)) _
+ready c =
+    let found = c .before .first-entries .ensures in
+    let pre = given (c .before) .pre in
+    ready-found _ _ _ (pre .sound) (pre .packed) (λ x i. found .known (c .if1 .taken) x i .0) (found .firsts (c .if1 .taken))
 
-  module _ (n : ℕ) (k : Checked s b n) where
-    six : sendersFit (view s) (entries b) ≡ false → trayRefusal s b n ≡ 6
-    unfolding trayRefusal
-    six h = rw (k .sound, lt-ltb (s .round) lastRound (k .early), le-leb maxFrame n (k .room), k .packed, eq-eqb (roundOf b) (s .round) (k .round), h)
+entry-count-requires : tie.Need-entry-count-requires
+entry-count-requires c κs = search needs
 
-    seven : sendersFit (view s) (entries b) ≡ true → heardFit (view s) (entries b) ≡ false → trayRefusal s b n ≡ 7
-    unfolding trayRefusal
-    seven h f = rw (k .sound, lt-ltb (s .round) lastRound (k .early), le-leb maxFrame n (k .room), k .packed, eq-eqb (roundOf b) (s .round) (k .round), h, f)
-
--- what was given, and that the senders fit
-abbrev given : tie.After-senders-fit → tie.Start
-given c = c .before .before .before
-
-senders-passed : (c : tie.Then1) → sendersFit (view (given (c .before) .args .state)) (entries (now (given (c .before) .args .tray))) ≡ true
-senders-passed c = sym (c .before .senders-fit .ensures) ∙ c .if1 .taken
-
-heard-asked : (c : tie.After-heard-with) → c .heard-with .result .fits ≡ heardFit (view (given (c .before .before) .args .state)) (entries (now (given (c .before .before) .args .tray)))
-heard-asked c = heard-test (given (c .before .before) .args .state) (now (given (c .before .before) .args .tray)) (given (c .before .before) .args .state .heard) _ (c .heard-with .ensures)
-
-senders-fit-requires : tie.Need-senders-fit-requires
-senders-fit-requires c κs = search needs
-
-heard-with-requires : tie.Need-heard-with-requires
-heard-with-requires c κs =
-    let start = given (c .before) in
-    (start .pre .packed, sound-heard (start .args .state) (start .pre .sound), senders-numbered (start .args .state) (now (start .args .tray)) (senders-passed c))
+first-entries-requires : tie.Need-first-entries-requires
+first-entries-requires c κs =
+    let counted = c .before .before in
+    let pre = counted .before .before .before .pre in
+    (pre .packed, sound-heard _ (pre .sound), λ j h. getD-replicate 64 j (counted .entry-count .result) 0 h ∙ counted .entry-count .ensures)
 
 heard-tray-requires : tie.Need-heard-tray-requires
 heard-tray-requires c κs =
-    let at = c .before .before in
-    let start = given (at .before .before .before) in
-    record {
-      checked = start .pre;
-      senders = senders-passed (at .before .before);
-      few = sym (heard-asked (at .before)) ∙ at .if2 .taken;
-      heard = heard-is (start .args .state) (now (start .args .tray)) (start .args .state .heard) _ (at .before .heard-with .ensures) (at .if2 .taken);
-    }
+    let at = c .before .before .before .before .before in
+    let pre = given (at .before) .pre in
+    (ready at, pre .early, pre .room)
 
-refused-requires : tie.Need-refused-requires
-refused-requires c κs = search needs
-
-refused-requires-2 : tie.Need-refused-requires-2
-refused-requires-2 c κs = search needs
+new-tray-requires : tie.Need-new-tray-requires
+new-tray-requires c κs = search needs
 
 same-length : tie.Need-same-length
 same-length c = search needs
 
 returns : tie.Need-returns
-returns c = search needs
+returns c =
+    let at = c .before .before .before .before .before .before .before .before in
+    rw (known-passed (given (at .before) .pre) (ready at) (λ x i. at .before .first-entries .ensures .known (at .if1 .taken) x i .1)) (c .before .before .heard-tray .ensures)
+
+same-length-2 : tie.Need-same-length-2
+same-length-2 c = search needs
 
 returns-2 : tie.Need-returns-2
-returns-2 c =
-    let at = c .before in
-    let start = given (at .before .before .before) in
-    promise-refused _ 7 _ _ _ _ (seven (start .args .state) (now (start .args .tray)) _ (start .pre) (senders-passed (at .before .before)) (sym (heard-asked (at .before)) ∙ at .if2 .left)) refl (c .refused .ensures)
-
-returns-3 : tie.Need-returns-3
-returns-3 c =
-    let at = c .before in
-    let start = given (at .before) in
-    promise-refused _ 6 _ _ _ _ (six (start .args .state) (now (start .args .tray)) _ (start .pre) (sym (at .before .senders-fit .ensures) ∙ at .if1 .left)) refl (c .refused2 .ensures)
+returns-2 c = search needs
 
 pub checked-tray-spec : {M : Type 1} → statement M
 checked-tray-spec =
     tie.close
     (tie.spec
-    senders-fit-requires
-    heard-with-requires
+    entry-count-requires
+    first-entries-requires
     heard-tray-requires
-    refused-requires
-    refused-requires-2
+    new-tray-requires
     same-length
     returns
-    returns-2
-    returns-3)
+    same-length-2
+    returns-2)

@@ -9,16 +9,17 @@ use borrow.Author.Needs.{needs}
 use borrow.Author.Tests.{le-leb}
 use denote.Ref.{now}
 use lib.Dec.{ltb}
-use lib.ListN.{length, take, drop, length-append}
-use Rattle.controller.specs.Calls.{Promise}
+use lib.ListN.{length, take, drop}
+use Rattle.controller.specs.Fields.{stateOf}
 use Rattle.controller.specs.Laws.Received.{frame-writable}
-use Rattle.controller.specs.Laws.State.{sound-gives, sound-stored}
+use Rattle.controller.specs.Laws.State.{sound-gives}
 use Rattle.controller.specs.Received.{frameOf}
 use Rattle.controller.specs.State.{view, sound}
+use Rattle.controller.specs.Storage.{Sends}
 use Rattle.controller.specs.declared.state.State.{State}
 use Rattle.wire.specs.Frame.{Content, kindOf, saidBy, maxCount, writeRefusal, FrameWrites}
 use Rattle.wire.specs.Limits.{maxFrame}
-use Rattle.wire.specs.Numbers.{stored, listed}
+use Rattle.wire.specs.Numbers.{listed}
 use Rattle.wire.specs.declared.frame.Said.{Said}
 use Rattle.wire.specs.declared.frame.Written.{Written}
 use Rattle.controller.proofs.calls.send.Statement.{statement}
@@ -39,28 +40,24 @@ module _ (s : State) where
       pick true = refl
       pick false = refl
 
-  fits-places : sound s ≡ true → (k n : ℕ) → n ≡ cond (ltb 0 (maxCount k)) (s .echoes .len) 0 → n ≤ length (s .echoes .at)
-  fits-places h k n e =
-      let m : s .echoes ≡ stored (listed (s .echoes)) = ap (λ (t : State). t .echoes) (sym (sound-stored s h)) in
-      let all : s .echoes .len ≤ length (s .echoes .at) = rw (m, length-append) (omega arith) in
-      rw e (pick (ltb 0 (maxCount k)) all)
-    where
-      pick : (t : Bool) → s .echoes .len ≤ length (s .echoes .at) → cond t (s .echoes .len) 0 ≤ length (s .echoes .at)
-      pick true all = all
-      pick false all = omega arith
-
-  writes : sound s ≡ true → (b : List ℕ) → maxFrame ≤ length b → (w : Written) (a : List ℕ) → FrameWrites (frameOf (view s)) b w a
-      → Promise 0 (view s) s b (record { refusal = 0; state = s; length = w .length }) a
+  writes : sound s ≡ true → (b : List ℕ) → maxFrame ≤ length b → (w : Written) (a : List ℕ) → FrameWrites (frameOf (view s)) b w a → Sends (view s) b (w .length) a
   unfolding writeRefusal
   writes h b room w a f =
       let allowed = frame-writable (view s) (sound-gives s h) in
       let roomy = le-leb maxFrame (length b) room in
-      record {
-        number = refl;
-        state = sym (sound-stored s h);
-        written = f .written ∙ rw (allowed, roomy);
-        output = f .output ∙ rw (allowed, roomy);
-      }
+      record { written = f .written ∙ rw (allowed, roomy); output = f .output ∙ rw (allowed, roomy) }
+
+-- the numbers that are sent are lent
+fits-places : (k m n l : ℕ) → m ≤ l → n ≡ cond (ltb 0 (maxCount k)) m 0 → n ≤ l
+fits-places k m n l all e = rw e (pick (ltb 0 (maxCount k)))
+  where
+    pick : (t : Bool) → cond t m 0 ≤ l
+    pick true = all
+    pick false = omega arith
+
+-- what was given
+abbrev given : tie.After-sent-count → tie.Start
+given c = c .before .before .before .before .before
 
 kind-of-requires : tie.Need-kind-of-requires
 kind-of-requires c κs = search needs
@@ -78,9 +75,7 @@ part-write-frame-start : tie.Need-part-write-frame-start
 part-write-frame-start c = search needs
 
 part-write-frame-end : tie.Need-part-write-frame-end
-part-write-frame-end c =
-    let start = c .before .before .before .before .before .before .before in
-    fits-places (start .args .state) (start .pre .0) _ _ (c .before .before .sent-count .ensures)
+part-write-frame-end c = fits-places _ _ _ _ (given c .pre .1) (c .sent-count .ensures)
 
 write-frame-requires : tie.Need-write-frame-requires
 write-frame-requires c κs = search needs
@@ -89,11 +84,12 @@ same-length : tie.Need-same-length
 same-length c = search needs
 
 returns : tie.Need-returns
-returns c =
-    let counted = c .before .before .before .before .before .before .before in
-    let start = counted .before .before .before .before .before in
-    let content = content-is (start .args .state) _ _ _ (counted .before .before .before .kind-of .ensures) (counted .sent-count .ensures) (counted .before .before .said-by .ensures) in
-    writes (start .args .state) (start .pre .0) (now (start .args .out)) (start .pre .1) (c .before .before .write-frame .result) _ (rw content at (c .before .before .write-frame .ensures))
+returns c h d sound =
+    let counted = c .before .before .before .before .before in
+    let start = given counted in
+    let s = stateOf (start .args .fields) h d (now (start .args .echoes)) in
+    let content = content-is s _ _ _ (counted .before .before .kind-of .ensures) (counted .sent-count .ensures) (counted .before .said-by .ensures) in
+    writes s sound (now (start .args .out)) (start .pre .0) (c .before .before .write-frame .result) _ (rw content at (c .before .before .write-frame .ensures))
 
 pub send-spec : {M : Type 1} → statement M
 send-spec =

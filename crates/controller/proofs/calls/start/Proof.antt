@@ -9,11 +9,12 @@ use lib.Dec.{eqb, leb}
 use lib.ListN.{length}
 use Rattle.controller.specs.Laws.State.{view-image, start-sound, sound-test}
 use Rattle.controller.specs.Refusals.{startRefusal}
-use Rattle.controller.specs.State.{view}
+use Rattle.controller.specs.Fields.{stateOf}
+use Rattle.controller.specs.State.{view, image, sound, startView}
 use Rattle.controller.specs.declared.state.Answer.{Answer}
 use Rattle.controller.specs.declared.state.State.{State}
 use Rattle.wire.specs.Limits.{maxFrame}
-use Rattle.controller.proofs.Promises.{promise-refused, promise-accepted}
+use Rattle.controller.proofs.Promises.{promise-refused, promise-sent}
 use Rattle.controller.proofs.calls.start.Statement.{statement}
 use Rattle.controller.proofs.calls.start.Tie as tie
 
@@ -40,6 +41,10 @@ module _ (number bit n : ℕ) where
   fits : (number ≡ 0 → ⊥) → bit ≤ 1 → maxFrame ≤ n → startRefusal number bit n ≡ 0
   unfolding startRefusal
   fits z l r = rw (ne-eqb number 0 z, le-leb bit 1 l, le-leb maxFrame n r)
+
+-- what was given
+abbrev given : tie.After-fields-of → tie.Start
+given c = c .before .before .before .before .before .before .before
 
 zero-state-requires : tie.Need-zero-state-requires
 zero-state-requires c κs = search needs
@@ -71,14 +76,35 @@ returns-3 c = promise-refused _ 3 _ _ _ _ (tight (c .before .before .before .bef
 first-state-requires : tie.Need-first-state-requires
 first-state-requires c κs = search needs
 
+fields-of-requires : tie.Need-fields-of-requires
+fields-of-requires c κs = search needs
+
+-- the state that is sent, put together of its parts
+whole : (c : tie.After-fields-of) → let s = c .before .before .first-state .result in stateOf (c .fields-of .result) (s .heard .at) (s .candidates .at) (s .echoes .at) ≡ image (startView (given c .args .number) (given c .args .bit))
+whole c = c .fields-of .ensures ∙ c .before .before .first-state .ensures
+
+first-sound : (c : tie.After-fields-of) → let s = c .before .before .first-state .result in sound (stateOf (c .fields-of .result) (s .heard .at) (s .candidates .at) (s .echoes .at)) ≡ true
+first-sound c =
+    let tested = c .before .before .before in
+    ap sound (whole c) ∙ sound-test _ (start-sound _ _ (tested .before .before .if1 .left) (omega (arith, tested .before .if2 .left)))
+
 send-requires : tie.Need-send-requires
-send-requires c κs = (rw (c .before .first-state .ensures) (sound-test _ (start-sound _ _ (c .before .before .before .before .if1 .left) (omega (arith, c .before .before .before .if2 .left)))), c .before .before .if3 .left)
+send-requires c κs =
+    let at = c .before .before .before .before in
+    let none : at .fields-of .result .echoes ≡ 0 = ap (λ (s : State). s .echoes .len) (whole at) in
+    (at .before .before .before .if3 .left, omega (arith, none))
 
 same-length : tie.Need-same-length
 same-length c = search needs
 
 returns-4 : tie.Need-returns-4
-returns-4 c = promise-accepted _ _ _ _ _ _ _ _ (fits (c .before .before .before .before .before .before .before .before .before .args .number) (c .before .before .before .before .before .before .before .before .before .args .bit) _ (c .before .before .before .before .before .before .before .if1 .left) (c .before .before .before .before .before .before .if2 .left) (c .before .before .before .before .before .if3 .left)) (ap view (c .before .before .before .before .first-state .ensures) ∙ view-image _) (c .before .before .send .ensures)
+returns-4 c =
+    let at = c .before .before .before .before .before .before .before in
+    let tested = at .before .before .before in
+    let s = at .before .before .first-state in
+    let shown : view (stateOf (at .fields-of .result) (s .result .heard .at) (s .result .candidates .at) (s .result .echoes .at)) ≡ startView (given at .args .number) (given at .args .bit) =
+    ap view (whole at) ∙ view-image _ in
+    promise-sent _ _ _ _ _ _ _ (fits _ _ _ (tested .before .before .if1 .left) (tested .before .if2 .left) (tested .if3 .left)) (s .ensures) (rw shown at (c .before .before .send .ensures _ _ (first-sound at)))
 
 pub start-spec : {M : Type 1} → statement M
 start-spec =
@@ -94,6 +120,7 @@ start-spec =
     refused-requires-3
     returns-3
     first-state-requires
+    fields-of-requires
     send-requires
     same-length
     returns-4)
