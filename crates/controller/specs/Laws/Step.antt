@@ -66,7 +66,8 @@ kept s h =
     }
 
 -- a state w whose lists fit is the one that is made
-makes : (s : State) (b : List ℕ) (w : View) (t : State) → next (view s) (entries b) ≡ w → length (w .candidates) ≤ maxNumbers → length (w .echoes) ≤ maxNumbers → t ≡ image w → Makes s b true t
+makes : (s : State) (b : List ℕ) (w : View) (t : State) → next (view s) (entries b) ≡ w → length (w .candidates) ≤ maxNumbers → length (w .echoes) ≤ maxNumbers → t ≡ image w
+    → Makes s b true t
 makes s b w t e candidates echoes made =
     record {
       fits = rw (e, le-leb _ _ candidates, le-leb _ _ echoes);
