@@ -17,7 +17,7 @@ use Rattle.controller.specs.Calls.{Promise}
 use Rattle.controller.specs.Laws.Lists.{mem-out, out-mem}
 use Rattle.controller.specs.Laws.Ready.{ready-short}
 use Rattle.controller.specs.Laws.Received.{heard-in, heard-rising}
-use Rattle.controller.specs.Laws.Rules.{heard-positive, next-heard}
+use Rattle.controller.specs.Laws.Rules.{heard-positive, next-already-heard}
 use Rattle.controller.specs.Laws.State.{Sound, sound-gives, sound-stored, sound-test, view-image}
 use Rattle.controller.specs.Laws.Step.{ready-found}
 use Rattle.controller.specs.Lists.{In, mem, insertAll}
@@ -66,7 +66,7 @@ module _ (s : State) (es : List Entry) (n : Numbers) (h : sound s ≡ true) (e :
   more-view = ap view more-image ∙ view-image _
 
   pub more-next : next (view (heardState s n)) es ≡ next (view s) es
-  more-next = ap (λ v. next v es) more-view ∙ next-heard (view s) es (sound-gives s h .heard .rises)
+  more-next = ap (λ v. next v es) more-view ∙ next-already-heard (view s) es (sound-gives s h .heard .rises)
 
   pub more-sound : (¬ In 0 (senders es)) → length (heardAfter (view s) es) ≤ maxNumbers → sound (heardState s n) ≡ true
   more-sound z short =
