@@ -4,6 +4,7 @@ ghost use mathlib.Core.List.{[]};
 ghost use mathlib.Core.Path.{_≡_};
 ghost use Prim.Native.Nat.{_≤_};
 ghost use lib.Dec.{leb, eqb};
+ghost use lib.ListN.{length};
 ghost use Rattle.wire.specs.Frame.{roundFits};
 ghost use Rattle.wire.specs.Limits.{maxNumbers};
 ghost use Rattle.wire.specs.Numbers.{rising, stored, listed};
@@ -17,9 +18,10 @@ use wire::frame::kind_of;
 use wire::frame::round_fits;
 use wire::limits::MAX_NUMBERS;
 
-// Whether the numbers in the used places rise strictly from above 0. A loop with no way out is compiled to tests of four numbers at once.
-fn rises(at: &[u32; MAX_NUMBERS], len: usize) -> bool
-    requires { ⌜ len ≤ maxNumbers ⌝ }
+// Whether the numbers in the used places rise strictly from above 0. A loop with no way out is compiled to tests of four numbers at once. The places
+// are lent as a slice, since the making of a slice shows how many an array has.
+fn rises(at: &[u32], len: usize) -> bool
+    requires { ⌜ (len ≤ maxNumbers) × (length (now at) ≡ maxNumbers) ⌝ }
     ensures { λ r. ⌜ r ≡ rising 0 (listed (record { len = len; at = now (at .entry) })) ⌝ }
 {
     let mut ok = true;
@@ -35,8 +37,8 @@ fn rises(at: &[u32; MAX_NUMBERS], len: usize) -> bool
 }
 
 // Whether the unused places are 0, as they are in the stored form.
-fn unused_zero(at: &[u32; MAX_NUMBERS], len: usize) -> bool
-    requires { ⌜ len ≤ maxNumbers ⌝ }
+fn unused_zero(at: &[u32], len: usize) -> bool
+    requires { ⌜ (len ≤ maxNumbers) × (length (now at) ≡ maxNumbers) ⌝ }
     ensures { λ r. ⌜ r ≡ same (now (at .entry)) ((stored (listed (record { len = len; at = now (at .entry) }))) .at) ⌝ }
 {
     let mut ok = true;

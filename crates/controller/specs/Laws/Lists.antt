@@ -144,11 +144,6 @@ pub rising-no-repeats : (l : List ℕ) → Rising l → NoRepeats l
 rising-no-repeats [] up = tt
 rising-no-repeats (x ∷ l) up = (λ i. absurd (omega (arith, up .0 x i)), rising-no-repeats l (up .1))
 
-pub drop-rising : (i : ℕ) (l : List ℕ) → Rising l → Rising (drop i l)
-drop-rising zero l up = up
-drop-rising (suc i) [] up = up
-drop-rising (suc i) (x ∷ l) up = drop-rising i l (up .1)
-
 -- two rising lists with the same members are one
 pub rising-same : (l m : List ℕ) → Rising l → Rising m → Inside l m → Inside m l → l ≡ m
 rising-same [] [] up vp i j = refl
@@ -309,6 +304,12 @@ insert-all-in {x} (y ∷ m) l =
 pub insert-all-rising : (m l : List ℕ) → Rising l → Rising (insertAll m l)
 insert-all-rising [] l up = up
 insert-all-rising (x ∷ m) l up = insert-rising x (insertAll m l) (insert-all-rising m l up)
+
+pub insert-all-known : (m l : List ℕ) → Rising l → Inside m l → insertAll m l ≡ l
+insert-all-known m l up inside =
+    rising-same (insertAll m l) l (insert-all-rising m l up) up
+    (λ y i. elim (insert-all-in m l .0 i) [ inl j ↦ inside y j | inr j ↦ j ])
+    (λ y i. insert-all-in m l .1 (inr i))
 
 -- the order in which numbers come in does not matter
 pub insert-all-insert : (x : ℕ) (m l : List ℕ) → Rising l → insertAll m (insert x l) ≡ insert x (insertAll m l)

@@ -95,6 +95,7 @@ pub record ListTests (n : Numbers) : Type 0 where
   pub list : SoundList (listed n)
   pub back : stored (listed n) ≡ n
   pub used : length (listed n) ≡ n .len
+  pub places : length (n .at) ≡ maxNumbers
 
 pub sound-list-gives : (n : Numbers) → soundList n ≡ true → ListTests n
 sound-list-gives n h =
@@ -110,6 +111,7 @@ sound-list-gives n h =
       list = record { short = omega arith; rises = up .0; positive = up .1 };
       back = λ i. record { len = len i; at = sym at i };
       used = len;
+      places = omega (arith, length-take (n .len) (n .at));
     }
 
 pub sound-list-test : (l : List ℕ) → SoundList l → soundList (stored l) ≡ true
