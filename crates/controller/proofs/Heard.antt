@@ -116,7 +116,7 @@ module _ {s : State} {b : List ℕ} {n : ℕ} (k : Checked s b n) (sent : sender
   all-heard x i =
       let own = and-eq-true-iff (not (mem 0 (senders (entries b)))) (not (mem (s .own) (senders (entries b)))) .0 sent .1 in
       let list : heardAfter (view s) (entries b) ≡ listed m = sym (ap listed e ∙ listed-stored _) in
-      (rw list at (heard-in (view s) (entries b) .1 (inl i)), λ q. mem-out (senders (entries b)) (not-true _ own) (Memᴰ·cast q i))
+      (rw list at (heard-in (view s) (entries b) .1 (inl i)), λ q. mem-out (senders (entries b)) (not-true _ own) (Memᴰ·cast (sym q) i))
 
   pub hearing-ready : (r : Bool) (f : List ℕ) → Finds (s .own) b (listed m) r f → Ready (heardState s m) b f
   hearing-ready true f found = ready-found (heardState s m) b f hearing-sound (k .packed) (λ x i. all-heard x i .0) (found .firsts refl)
