@@ -289,7 +289,7 @@ pub fn tray(state: State, tray: &[u8], out: &mut [u8]) -> Answer
     heard.len = fields.heard;
     candidates.len = fields.candidates;
     echoes.len = fields.echoes;
-    let state = State {
+    let made = State {
         own: fields.own,
         round: fields.round,
         bit: fields.bit,
@@ -303,7 +303,7 @@ pub fn tray(state: State, tray: &[u8], out: &mut [u8]) -> Answer
     };
     Answer {
         refusal: worked.refusal,
-        state,
+        state: made,
         length: worked.length,
     }
 }
