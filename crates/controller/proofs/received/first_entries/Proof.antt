@@ -18,7 +18,7 @@ use lib.Seq.{getD-set-same, getD-set-other}
 use Rattle.controller.specs.Laws.Lists.{true-or-false, count-short, rising-place, rising-at, mem-in, mem-out}
 use Rattle.controller.specs.Laws.Received.{senders-step, sender-in}
 use Rattle.controller.specs.Laws.State.{ListTests, sound-list-gives}
-use Rattle.controller.specs.Lists.{In, Rising, mem}
+use Rattle.controller.specs.Lists.{In, Rising}
 use Rattle.controller.specs.Received.{senders}
 use Rattle.controller.specs.Storage.{below, Finds}
 use Rattle.wire.specs.Laws.Tray.{directory-holds}

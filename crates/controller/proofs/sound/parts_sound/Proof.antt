@@ -94,7 +94,7 @@ lists-sound-requires c κs = search needs
 fields-sound-requires : tie.Need-fields-sound-requires
 fields-sound-requires c κs = search needs
 
--- what the two first tests have shown
+-- the lists' test, and what it showed where the fields' test came after it
 abbrev passed : tie.Then2 → tie.Then1
 passed c = c .before .before
 
@@ -103,6 +103,9 @@ list-test c = let a = c .before .args in lists (a .fields) (now (a .heard)) (now
 
 lists-pass : (c : tie.Then1) → list-test (c .before) ≡ true
 lists-pass c = sym (c .before .lists-sound .ensures) ∙ c .if1 .taken
+
+lists-fail : (c : tie.Else1) → list-test (c .before) ≡ false
+lists-fail c = sym (c .before .lists-sound .ensures) ∙ c .if1 .left
 
 has-requires : tie.Need-has-requires
 has-requires c κs =
@@ -133,7 +136,7 @@ returns-3 c =
 returns-4 : tie.Need-returns-4
 returns-4 c =
     let a = c .before .before .args in
-    unlisted (a .fields) (now (a .heard)) (now (a .candidates)) (now (a .echoes)) (sym (c .before .lists-sound .ensures) ∙ c .if1 .left)
+    unlisted (a .fields) (now (a .heard)) (now (a .candidates)) (now (a .echoes)) (lists-fail c)
 
 pub parts-sound-spec : {M : Type 1} → statement M
 parts-sound-spec =

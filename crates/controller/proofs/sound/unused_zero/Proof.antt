@@ -1,0 +1,90 @@
+-- `controller::sound::unused_zero` meets its contract: the places passed and those that are left are 0 exactly if all that are unused are.
+use Prim.Native.Nat.{ℕ, suc, _+_, _-_, _≤_, _<_}
+use mathlib.Core.Bool.{Bool, _&&_, and-assoc, and-true}
+use mathlib.Core.List.{List, _∷_}
+use mathlib.Core.Path.{_≡_, sym, ap, _∙_}
+use native.Mathlib.Numerals.{add-one}
+use native.Mathlib.Omega.{arith}
+use borrow.Author.Needs.{needs}
+use denote.Ref.{now}
+use lib.Dec.{eqb}
+use lib.ListN.{length, getD, drop, replicate, take-append-drop, drop-of-length-le}
+use lib.Seq.{drop-cons, length-take-le}
+use Rattle.wire.specs.Limits.{maxNumbers}
+use Rattle.wire.specs.Numbers.{stored, listed}
+use Rattle.wire.specs.declared.frame.Numbers.{Numbers}
+use Rattle.controller.specs.Laws.State.{same-append}
+use Rattle.controller.specs.State.{same}
+use Rattle.controller.proofs.sound.unused_zero.Statement.{statement}
+use Rattle.controller.proofs.sound.unused_zero.Tie as tie
+
+-- whether the places from i on are 0
+abbrev zero-from : List ℕ → ℕ → Bool
+zero-from s i = same (drop i s) (replicate (maxNumbers - i) 0)
+
+abbrev Inv-loop : tie.InvT-loop
+Inv-loop at len ok₀ i₀ ok i =
+    (i ≤ maxNumbers) × (length at ≡ maxNumbers) × ((ok && zero-from at i) ≡ same at ((stored (listed (record { len = len; at = at }))) .at))
+
+abbrev μ-loop : tie.MeasureT-loop
+μ-loop at len ok₀ i₀ ok i = maxNumbers - i
+
+first : (n : Numbers) → n .len ≤ length (n .at) → same (n .at) ((stored (listed n)) .at) ≡ zero-from (n .at) (n .len)
+first n h =
+    ap (λ (s : List ℕ). same s ((stored (listed n)) .at)) (sym (take-append-drop (n .len) (n .at)))
+    ∙ same-append (listed n) (drop (n .len) (n .at)) (replicate (maxNumbers - length (listed n)) 0)
+    ∙ ap (λ (k : ℕ). same (drop (n .len) (n .at)) (replicate (maxNumbers - k) 0)) (length-take-le (n .len) (n .at) h)
+
+module _ (ok : Bool) (s : List ℕ) (i : ℕ) (k : length s ≡ maxNumbers) where
+  turn : i < maxNumbers → (ok && eqb (getD s i 0) 0 && zero-from s (i + 1)) ≡ (ok && zero-from s i)
+  turn h =
+      let next : maxNumbers - i ≡ suc (maxNumbers - (i + 1)) = omega arith in
+      let split : drop i s ≡ getD s i 0 ∷ drop (i + 1) s = rw add-one (drop-cons s i 0 (rw k h)) in
+      rw (next, split) (and-assoc ok (eqb (getD s i 0) 0) (zero-from s (i + 1)))
+
+  done : maxNumbers ≤ i → (ok && zero-from s i) ≡ ok
+  done h =
+      let next : maxNumbers - i ≡ 0 = omega arith in
+      rw (next, drop-of-length-le s {i = i} (rw k h)) (and-true ok)
+
+loop-holds : tie.Need-loop-holds Inv-loop μ-loop
+loop-holds c =
+    let list : Numbers = record { len = c .args .len; at = now (c .args .at) } in
+    let k : length (list .at) ≡ maxNumbers = search needs in
+    (search needs, k, sym (first list (rw k (c .pre .0))))
+
+mul-ok : tie.Need-mul-ok Inv-loop μ-loop
+mul-ok c = search needs
+
+shared-slice-read-ok : tie.Need-shared-slice-read-ok Inv-loop μ-loop
+shared-slice-read-ok c = search needs
+
+add-i : tie.Need-add-i Inv-loop μ-loop
+add-i c = search needs
+
+loop-less : tie.Need-loop-less Inv-loop μ-loop
+loop-less c = search needs
+
+loop-again : tie.Need-loop-again Inv-loop μ-loop
+loop-again c =
+    let v = c .before .before .loop in
+    (search needs, search needs, turn (v .ok) (now (c .before .before .before .args .at)) (v .i) (v .inv .1) (search needs) ∙ v .inv .2)
+
+returns : tie.Need-returns Inv-loop μ-loop
+returns c =
+    let v = c .before .loop in
+    sym (done (v .ok) (now (c .before .before .args .at)) (v .i) (v .inv .1) (search needs)) ∙ v .inv .2
+
+pub unused-zero-spec : {M : Type 1} → statement M
+unused-zero-spec =
+    tie.close
+    (tie.spec
+    Inv-loop
+    μ-loop
+    loop-holds
+    mul-ok
+    shared-slice-read-ok
+    add-i
+    loop-less
+    loop-again
+    returns)
