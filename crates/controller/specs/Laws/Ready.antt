@@ -1,24 +1,37 @@
--- Laws of what a step finds: those heard, and the first entry of each of them.
+-- Laws of what a step finds: those heard, the first entry of each of them, and what is received under each.
 use Prim.Native.Nat.{ℕ, _+_, _≤_, _<_}
-use mathlib.Core.Bool.{Bool, true, false, cond}
+use mathlib.Core.Bool.{true, false, cond}
 use mathlib.Core.List.{List}
-use mathlib.Core.Option.{some}
-use mathlib.Core.Path.{_≡_, refl, sym, ap, _∙_}
+use mathlib.Core.Option.{none}
+use mathlib.Core.Path.{_≡_, sym, ap, _∙_}
 use native.Mathlib.Decide.{ℕ-discrete}
 use native.Mathlib.Omega.{arith}
-use borrow.Author.Tests.{ne-eqb}
-use lib.Dec.{eqb}
+use borrow.Author.Tests.{ne-eqb, le-ltb}
+use lib.Dec.{leb, ltb, eqb}
 use lib.ListN.{length, getD}
 use lib.Seq.{getD-take}
+use Rattle.wire.specs.Frame.{kindOf, bitIn}
 use Rattle.wire.specs.Limits.{maxNumbers}
 use Rattle.wire.specs.Numbers.{listed}
 use Rattle.wire.specs.Tray.{entries, place, bytesAt}
-use Rattle.controller.specs.Laws.State.{sound-list-gives, sound-heard}
+use Rattle.wire.specs.declared.frame.Numbers.{Numbers}
+use Rattle.controller.specs.Laws.Lists.{mem-in, mem-out, count-short, rising-place}
+use Rattle.controller.specs.Laws.Received.{unheard-received, bit-under, received-says, received-opinion}
+use Rattle.controller.specs.Laws.State.{sound-gives, sound-list-gives, sound-heard}
 use Rattle.controller.specs.Laws.Tally.{listAt}
-use Rattle.controller.specs.Received.{heardAfter, readIn, received, frameOf, listIn}
-use Rattle.controller.specs.State.{view}
-use Rattle.controller.specs.Storage.{Ready, contentUnder, Alike}
+use Rattle.controller.specs.Lists.{In, mem}
+use Rattle.controller.specs.Received.{heardAfter, readIn, received, listIn, says, opinionIn}
+use Rattle.controller.specs.State.{view, soundList}
+use Rattle.controller.specs.Storage.{below, Ready, contentUnder, bitUnder, Alike}
 use Rattle.controller.specs.declared.state.State.{State}
+
+-- a number of a sound list stands at its place
+pub list-place : (n : Numbers) → soundList n ≡ true → (x : ℕ) → mem x (listed n) ≡ true → (below x (listed n) < n .len) × (getD (n .at) (below x (listed n)) 0 ≡ x)
+list-place n h x t =
+    let tests = sound-list-gives n h in
+    let i : In x (listed n) = mem-in (listed n) t in
+    let inside : below x (listed n) < n .len = omega (arith, tests .used, count-short (λ y. ltb y x) x i (le-ltb x x (omega arith))) in
+    (inside, sym (getD-take (n .len) (n .at) (below x (listed n)) 0 inside) ∙ rising-place x (listed n) (tests .list .rises) i)
 
 module _ {s : State} {b f : List ℕ} (ready : Ready s b f) where
   pub ready-listed : listed (s .heard) ≡ heardAfter (view s) (entries b)
@@ -57,3 +70,26 @@ module _ {s : State} {b f : List ℕ} (ready : Ready s b f) where
         rw (ne-eqb (getD (s .heard .at) i 0) (s .own) (t .1), ne-eqb (getD (s .heard .at) j 0) (s .own) (t .0), t .2) in
         sym (ready-list i (omega (arith, a .inside))) ∙ ap listIn content ∙ ready-list j (omega (arith, a .inside))
   ]
+
+  -- the bit received under the number at place j, and what it tells
+  ready-bit : (j : ℕ) → j < s .heard .len
+      → bitUnder (s .own) (s .round) (s .said) b (getD (s .heard .at) j 0) (getD f j 0) ≡ bitIn (received (view s) (entries b) (getD (listed (s .heard)) j 0))
+  ready-bit j h =
+      bit-under (view s) (sound-gives s (ready .sound)) (eqb (getD (s .heard .at) j 0) (s .own)) (readIn (s .round) (bytesAt b (place b (getD f j 0))))
+      ∙ ap bitIn (ready-content j h)
+
+  pub ready-says : (j bit : ℕ) → j < s .heard .len → bit < 3
+      → eqb (bitUnder (s .own) (s .round) (s .said) b (getD (s .heard .at) j 0) (getD f j 0)) bit ≡ says (kindOf (s .round)) bit (received (view s) (entries b) (getD (listed (s .heard)) j 0))
+  ready-says j bit h l = ap (λ (d : ℕ). eqb d bit) (ready-bit j h) ∙ received-says (view s) (entries b) (getD (listed (s .heard)) j 0) bit l
+
+  pub ready-opinion : kindOf (s .round) ≡ 5 → (j x : ℕ) → j < s .heard .len → getD (s .heard .at) j 0 ≡ x
+      → opinionIn (received (view s) (entries b) x) ≡ cond (leb (bitUnder (s .own) (s .round) (s .said) b x (getD f j 0)) 1) (bitUnder (s .own) (s .round) (s .said) b x (getD f j 0)) 2
+  ready-opinion k j x h e =
+      let bit : bitUnder (s .own) (s .round) (s .said) b x (getD f j 0) ≡ bitIn (received (view s) (entries b) x) =
+      ap (λ (y : ℕ). bitUnder (s .own) (s .round) (s .said) b y (getD f j 0)) (sym e) ∙ ready-bit j h
+      ∙ ap (λ (y : ℕ). bitIn (received (view s) (entries b) y)) (getD-take (s .heard .len) (s .heard .at) j 0 h ∙ e) in
+      received-opinion (view s) (entries b) (sound-gives s (ready .sound)) k x ∙ ap (λ (d : ℕ). cond (leb d 1) d 2) (sym bit)
+
+  -- of one that is not heard nothing is received
+  pub ready-silent : (x : ℕ) → mem x (listed (s .heard)) ≡ false → received (view s) (entries b) x ≡ none
+  ready-silent x t = unheard-received (view s) (entries b) (sound-gives s (ready .sound)) x (mem-out (heardAfter (view s) (entries b)) (ap (mem x) (ready .heard) ∙ t))

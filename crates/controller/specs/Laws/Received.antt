@@ -5,20 +5,20 @@ use mathlib.Core.List.{List, [], _∷_, List·Memᴰ·head, List·Memᴰ·tail, 
 use mathlib.Core.Logic.{inl, inr, _⊎_, _↔_, _≢_}
 use mathlib.Core.Option.{Option, some, none}
 use mathlib.Core.Path.{_≡_, refl, sym, _∙_, ap}
-use borrow.Author.Tests.{le-leb, eq-eqb, ne-eqb}
+use borrow.Author.Tests.{leb-false, le-leb, eq-eqb, ne-eqb}
 use native.Mathlib.Decide.{ℕ-discrete}
 use native.Mathlib.Omega.{arith}
-use lib.Dec.{eqb, ltb}
+use lib.Dec.{leb, eqb, ltb}
 use lib.ListN.{length}
-use Rattle.wire.specs.Frame.{Content, content, kindOf, kindSaid, bitSaid, frameBytes, roundFits, writable, maxCount, readStored}
-use Rattle.wire.specs.Laws.Frame.{kind-range, said-kind, said-bit, said-allowed, writable-gives, reads-written, read-writable}
+use Rattle.wire.specs.Frame.{Content, content, kindOf, kindSaid, bitSaid, bitIn, frameBytes, roundFits, writable, maxCount, readStored}
+use Rattle.wire.specs.Laws.Frame.{kind-range, said-kind, said-bit, said-allowed, said-bound, writable-gives, reads-written, read-kind, read-writable}
 use Rattle.wire.specs.Limits.{maxNumbers, lastRound}
 use Rattle.wire.specs.Numbers.{rising, stored}
 use Rattle.wire.specs.Tray.{Entry, entryCount, sender, entriesFrom, entries, firstBytes}
 use Rattle.controller.specs.Lists.{In, Rising}
 use Rattle.controller.specs.State.{View}
 use Rattle.controller.specs.Received.{frameOf, senders, heardAfter, readIn, received, says, opinionIn, listIn}
-use Rattle.controller.specs.Laws.Lists.{inside-length, insert-all-in, insert-all-rising, rising-gives, rising-test}
+use Rattle.controller.specs.Laws.Lists.{true-or-false, inside-length, insert-all-in, insert-all-rising, rising-gives, rising-test}
 use Rattle.controller.specs.Laws.State.{SoundList, Sound}
 
 -- ---- the directory's senders
@@ -151,3 +151,39 @@ list-positive (some c) allowed y i = rising-gives (c .numbers) (writable-gives c
 -- the numbers of a frame that was read, or of the own frame of a sound state, are above 0
 pub received-positive : (v : View) (es : List Entry) → Sound v → (x y : ℕ) → In y (listIn (received v es x)) → 0 < y
 received-positive v es h x = list-positive (received v es x) (received-allowed v es h x)
+
+-- ---- the bit of what is received tells what it says, since its kind is the round's
+
+read-of-kind : (t : ℕ) (b : Option (List ℕ)) (c : Content) → readIn t b ≡ some c → kindSaid (c .said) ≡ kindOf t
+read-of-kind t none c e = let z : _≡_ {A = ℕ} 0 1 = cc in absurd (omega arith)
+read-of-kind t (some b) c e = read-kind b t c e
+
+received-kind : (v : View) (es : List Entry) (x : ℕ) (c : Content) → received v es x ≡ some c → kindSaid (c .said) ≡ kindOf (v .round)
+unfolding received
+received-kind v es x c = pick (eqb x (v .own))
+  where
+    pick : (t : Bool) → cond t (some (frameOf v)) (readIn (v .round) (firstBytes x es)) ≡ some c → kindSaid (c .said) ≡ kindOf (v .round)
+    pick true e = let same : frameOf v ≡ c = cc in rw same at (frame-kind v)
+    pick false e = read-of-kind (v .round) (firstBytes x es) c e
+
+-- the bit under the own number, or of a frame that was read
+pub bit-under : (v : View) → Sound v → (t : Bool) (o : Option Content) → cond t (v .said) (bitIn o) ≡ bitIn (cond t (some (frameOf v)) o)
+bit-under v h true o = sym (frame-bit v h)
+bit-under v h false o = refl
+
+says-by-bit : (k b : ℕ) (o : Option Content) → ((c : Content) → o ≡ some c → kindSaid (c .said) ≡ k) → b < 3 → eqb (bitIn o) b ≡ says k b o
+says-by-bit k b none kind l = ne-eqb 3 b (λ e. omega arith)
+says-by-bit k b (some c) kind l = rw (eq-eqb _ _ (kind c refl))
+
+pub received-says : (v : View) (es : List Entry) (x b : ℕ) → b < 3 → eqb (bitIn (received v es x)) b ≡ says (kindOf (v .round)) b (received v es x)
+received-says v es x b = says-by-bit (kindOf (v .round)) b (received v es x) (received-kind v es x)
+
+bit-or-none : (b : ℕ) → b ≤ 2 → b ≡ cond (leb b 1) b 2
+bit-or-none b l = elim (true-or-false (leb b 1)) [ inl t ↦ rw t | inr t ↦ rw t (omega (arith, leb-false b 1 t)) ]
+
+opinion-by-bit : (o : Option Content) → ((c : Content) → o ≡ some c → (kindSaid (c .said) ≡ 5) × (writable c ≡ true)) → opinionIn o ≡ cond (leb (bitIn o) 1) (bitIn o) 2
+opinion-by-bit none is = refl
+opinion-by-bit (some c) is = rw (eq-eqb _ _ (is c refl .0)) (bit-or-none (bitSaid (c .said)) (said-bound (c .said) (writable-gives c (is c refl .1) .said)))
+
+pub received-opinion : (v : View) (es : List Entry) → Sound v → kindOf (v .round) ≡ 5 → (x : ℕ) → opinionIn (received v es x) ≡ cond (leb (bitIn (received v es x)) 1) (bitIn (received v es x)) 2
+received-opinion v es h k x = opinion-by-bit (received v es x) (λ c e. (received-kind v es x c e ∙ k, received-allowed v es h x c e))

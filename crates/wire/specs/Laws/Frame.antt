@@ -149,6 +149,14 @@ chosen-fits : (c : Choice) → chosenFits c ≡ true → leb (bitChosen c) 2 ≡
 chosen-fits (Bit b) h = let l : b ≤ 1 = leb-true b 1 h in le-leb b 2 (omega arith)
 chosen-fits None h = refl
 
+-- what is allowed says 0, 1, or 2 for none
+pub said-bound : (a : Said) → saidFits a ≡ true → bitSaid a ≤ 2
+said-bound Init h = omega arith
+said-bound Roster h = omega arith
+said-bound (Value b) h = let l : b ≤ 1 = leb-true b 1 h in omega arith
+said-bound (Proposal c) h = leb-true (bitChosen c) 2 (chosen-fits c h)
+said-bound (Opinion c) h = leb-true (bitChosen c) 2 (chosen-fits c h)
+
 said-back : (a : Said) → saidFits a ≡ true → saidBy (kindSaid a) (bitSaid a) ≡ a
 unfolding saidBy
 said-back Init h = refl
@@ -280,6 +288,12 @@ content-gives s t c e = pick (fits s t) refl (sym (content-is s t) ∙ e)
         let e₁ = and-eq-true-iff (lengthFits s) (headFits s t) .0 (e₂ .0) in
         record { whole = e₁ .0; head = e₁ .1; body = e₂ .1; content = cc }
     pick false h q = let z : _≡_ {A = ℕ} 0 1 = cc in absurd (omega arith)
+
+-- content that was read is of the round's kind
+pub read-kind : (s : List ℕ) (t : ℕ) (c : Content) → content s t ≡ some c → kindSaid (c .said) ≡ kindOf t
+read-kind s t c e =
+    let k = kind-range t in
+    ap (λ (d : Content). kindSaid (d .said)) (sym (content-gives s t c e .content)) ∙ said-kind (kindOf t) (getD s bitAt 0) (k .0) (k .1)
 
 -- a frame's bytes, field by field
 frame-split : (s : List ℕ) → Below 256 s → length s ≡ frameHeader + numberWidth * countOf s

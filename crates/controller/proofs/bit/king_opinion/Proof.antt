@@ -1,66 +1,91 @@
--- `controller::bit::king_opinion` meets its contract: a king that is heard stands at its place, and its frame is read there; of one that is not heard nothing is received.
-use Prim.Native.Nat.{ℕ, _<_}
+-- `controller::bit::king_opinion` meets its contract: a king that is heard stands at its place, and its bit is read there; of one that is not heard nothing is received.
+use Prim.Native.Nat.{ℕ, _≤_, _<_}
 use mathlib.Core.List.{List}
 use mathlib.Core.Path.{_≡_, sym, ap, _∙_}
+use native.Mathlib.Omega.{arith}
 use borrow.Author.Needs.{needs}
+use borrow.Author.Tests.{le-leb, lt-leb}
 use denote.Ref.{now}
 use lib.ListN.{getD}
-use Rattle.controller.specs.Laws.Received.{stored-opinion}
-use Rattle.controller.specs.Laws.State.{sound-gives}
-use Rattle.controller.specs.Laws.Step.{Heard, ready-heard, heard-place, heard-silent}
-use Rattle.controller.specs.Received.{received, opinionIn}
-use Rattle.controller.specs.State.{View, view}
-use Rattle.controller.specs.Storage.{below, opinionRead}
-use Rattle.wire.specs.Frame.{readStored}
-use Rattle.wire.specs.Numbers.{listed}
-use Rattle.wire.specs.Tray.{Entry, entries}
-use Rattle.wire.specs.declared.frame.FrameRead.{FrameRead}
+use Rattle.controller.specs.Bit.{kingOpinion}
+use Rattle.controller.specs.Laws.Ready.{list-place, ready-opinion, ready-silent}
+use Rattle.controller.specs.Laws.State.{sound-list-gives}
+use Rattle.controller.specs.Received.{opinionIn}
+use Rattle.controller.specs.State.{view}
+use Rattle.controller.specs.Storage.{Ready, bitUnder}
+use Rattle.controller.specs.declared.state.State.{State}
+use Rattle.wire.specs.Frame.{kindOf}
+use Rattle.wire.specs.Limits.{maxNumbers}
+use Rattle.wire.specs.Tray.{entries}
+use Rattle.wire.specs.declared.frame.Numbers.{Numbers}
 use Rattle.controller.proofs.bit.king_opinion.Statement.{statement}
 use Rattle.controller.proofs.bit.king_opinion.Tie as tie
 
--- the opinion in the frame r that was read at the place j of k
-king-said : (v : View) (es : List Entry) (l : List ℕ) (r : FrameRead) (j k o : ℕ) → j ≡ below k l → getD l (below k l) 0 ≡ k
-    → r ≡ readStored (received v es (getD l j 0)) → o ≡ opinionRead (r .read) → o ≡ opinionIn (received v es k)
-king-said v es l r j k o at there read said =
-    said ∙ stored-opinion r (received v es (getD l j 0)) read
-    ∙ ap (λ (x : ℕ). opinionIn (received v es x)) (ap (λ (i : ℕ). getD l i 0) at ∙ there)
+-- the king stands at place j of those heard, and d is the bit that is read there
+module _ {s : State} {b f : List ℕ} (ready : Ready s b f) (turn : kindOf (s .round) ≡ 5) (j d : ℕ) (inside : j < s .heard .len) (there : getD (s .heard .at) j 0 ≡ s .king)
+    (read : d ≡ bitUnder (s .own) (s .round) (s .said) b (s .king) (getD f j 0)) where
+  said : d ≤ 1 → d ≡ kingOpinion (view s) (entries b)
+  said l = sym (ready-opinion ready turn j (s .king) inside there ∙ rw (← read, le-leb d 1 l))
+
+  silent : 1 < d → 2 ≡ kingOpinion (view s) (entries b)
+  silent l = sym (ready-opinion ready turn j (s .king) inside there ∙ rw (← read, lt-leb d 1 l))
 
 -- those heard
-found : (c : tie.Start) → Heard (view (c .args .state)) (entries (now (c .args .tray))) (c .args .heard)
-found c = ready-heard (c .pre)
+abbrev list : tie.Start → Numbers
+list c = record { len = c .args .fields .heard; at = now (c .args .heard) }
 
 -- the king's place among them
-place : (c : tie.Then1) → (below (c .before .before .before .args .state .king) (listed (c .before .before .before .args .heard)) < c .before .before .before .args .heard .len)
-    × (getD (listed (c .before .before .before .args .heard)) (below (c .before .before .before .args .state .king) (listed (c .before .before .before .args .heard))) 0 ≡ c .before .before .before .args .state .king)
-place c = heard-place (found (c .before .before .before)) (c .before .before .before .args .state .king) (sym (c .before .has .ensures) ∙ c .if1 .taken)
+found : (c : tie.Then1)
+    → (c .before .before .place-in .result < c .before .before .before .before .args .fields .heard)
+    × (getD (now (c .before .before .before .before .args .heard)) (c .before .before .place-in .result) 0 ≡ c .before .before .before .before .args .fields .king)
+found c =
+    let start = c .before .before .before .before in
+    rw (c .before .before .place-in .ensures) (list-place (list start) (start .pre) (start .args .fields .king) (sym (c .before .has-at .ensures) ∙ c .if1 .taken))
 
-has-requires : tie.Need-has-requires
-has-requires c κs = found (c .before) .sound
+-- it is one of 64
+bounded : (c : tie.Then1) → c .before .before .place-in .result < maxNumbers
+bounded c =
+    let start = c .before .before .before .before in
+    let tests = sound-list-gives (list start) (start .pre) in
+    omega (arith, found c .0, tests .used, tests .list .short)
 
-place-of-requires : tie.Need-place-of-requires
-place-of-requires c κs = found (c .before .before .before) .sound
+place-in-requires : tie.Need-place-in-requires
+place-in-requires c κs = c .before .pre
 
-received-requires : tie.Need-received-requires
-received-requires c κs = (c .before .before .before .before .pre, rw (c .place-of .ensures) (place (c .before) .0))
+has-at-requires : tie.Need-has-at-requires
+has-at-requires c κs = (c .before .before .pre, c .place-in .ensures)
 
-read-opinion-requires : tie.Need-read-opinion-requires
-read-opinion-requires c κs = search needs
+mul-received-bit : tie.Need-mul-received-bit
+mul-received-bit c = omega (arith, bounded c)
+
+element-copy-out-received-bit : tie.Need-element-copy-out-received-bit
+element-copy-out-received-bit c = omega (arith, bounded c)
+
+received-bit-requires : tie.Need-received-bit-requires
+received-bit-requires c κs = search needs
 
 returns : tie.Need-returns
-returns c =
-    king-said _ _ (listed (c .before .before .before .before .before .before .args .heard)) (c .before .received .result) _ _ _
-    (c .before .before .place-of .ensures) (place (c .before .before .before) .1) (c .before .received .ensures) (c .read-opinion .ensures)
+returns c x e ready turn =
+    let place = found (c .before .before .before) in
+    said ready turn (c .before .before .before .before .before .place-in .result) _ (place .0) (place .1) (c .before .received-bit .ensures) (c .if2 .taken)
 
 returns-2 : tie.Need-returns-2
-returns-2 c = sym (heard-silent (sound-gives _ (c .before .before .before .pre .sound)) (found (c .before .before .before)) (c .before .before .before .args .state .king) (sym (c .before .has .ensures) ∙ c .if1 .left))
+returns-2 c x e ready turn =
+    let place = found (c .before .before .before) in
+    silent ready turn (c .before .before .before .before .before .place-in .result) _ (place .0) (place .1) (c .before .received-bit .ensures) (c .if2 .left)
+
+returns-3 : tie.Need-returns-3
+returns-3 c x e ready turn = sym (ap opinionIn (ready-silent ready (c .before .before .before .before .args .fields .king) (sym (c .before .has-at .ensures) ∙ c .if1 .left)))
 
 pub king-opinion-spec : {M : Type 1} → statement M
 king-opinion-spec =
     tie.close
     (tie.spec
-    has-requires
-    place-of-requires
-    received-requires
-    read-opinion-requires
+    place-in-requires
+    has-at-requires
+    mul-received-bit
+    element-copy-out-received-bit
+    received-bit-requires
     returns
-    returns-2)
+    returns-2
+    returns-3)

@@ -2,124 +2,136 @@
 use Prim.Native.Nat.{ℕ, _+_, _-_, _≤_, _<_}
 use mathlib.Core.Bool.{Bool, true, false, cond}
 use mathlib.Core.List.{List}
-use mathlib.Core.Path.{_≡_, refl, sym, _∙_}
+use mathlib.Core.Path.{_≡_, refl, sym, ap, _∙_}
 use native.Mathlib.Numerals.{add-one}
 use native.Mathlib.Omega.{arith}
 use borrow.Author.Needs.{needs}
-use denote.Ref.{now}
-use lib.ListN.{length, getD, take, length-take}
+use lib.Dec.{eqb}
+use lib.ListN.{length, getD, take}
 use lib.Seq.{take-suc, take-all}
-use Rattle.controller.specs.Laws.Lists.{count-append, count-split}
-use Rattle.controller.specs.Laws.Ready.{ready-listed, ready-used, ready-few, ready-says}
+use Rattle.controller.specs.Fields.{stateOf}
+use Rattle.controller.specs.Laws.Lists.{count-append}
+use Rattle.controller.specs.Laws.Ready.{ready-listed, ready-used, ready-says}
+use Rattle.controller.specs.Laws.State.{sound-gives}
 use Rattle.controller.specs.Lists.{countIf}
-use Rattle.controller.specs.Received.{received, says}
+use Rattle.controller.specs.Received.{heardAfter, received, says}
 use Rattle.controller.specs.State.{view}
-use Rattle.controller.specs.Storage.{Ready, saidUnder, saysRead}
-use Rattle.controller.specs.declared.received.Firsts.{Firsts}
+use Rattle.controller.specs.Storage.{Ready, bitUnder}
 use Rattle.controller.specs.declared.state.State.{State}
+use Rattle.wire.specs.Frame.{kindOf}
+use Rattle.wire.specs.Limits.{maxNumbers}
 use Rattle.wire.specs.Numbers.{listed}
 use Rattle.wire.specs.Tray.{entries}
-use Rattle.wire.specs.declared.frame.Numbers.{Numbers}
-use Rattle.wire.specs.declared.frame.Read.{Read}
 use Rattle.controller.proofs.received.count_bits.Statement.{statement}
 use Rattle.controller.proofs.received.count_bits.Tie as tie
 
 -- whether the frame received under x is counted
-abbrev counted : State → List ℕ → ℕ → ℕ → ℕ → Bool
-counted s b k bit x = says k bit (received (view s) (entries b) x)
+abbrev counted : State → List ℕ → ℕ → ℕ → Bool
+counted s b bit x = says (kindOf (s .round)) bit (received (view s) (entries b) x)
 
-module _ (f : ℕ → Bool) (l : List ℕ) (j : ℕ) where
-  bound : countIf f (take j l) ≤ j
-  bound = omega (arith, count-split f (take j l), length-take j l)
+-- those counted among the first j
+abbrev total : State → List ℕ → ℕ → ℕ → ℕ
+total s b bit j = countIf (counted s b bit) (take j (listed (s .heard)))
 
-  further : j < length l → countIf f (take (j + 1) l) ≡ countIf f (take j l) + cond (f (getD l j 0)) 1 0
-  further h = rw (add-one j, take-suc l j 0, count-append)
+further : (f : ℕ → Bool) (l : List ℕ) (j : ℕ) → j < length l → countIf f (take (j + 1) l) ≡ countIf f (take j l) + cond (f (getD l j 0)) 1 0
+further f l j h = rw (add-one j, take-suc l j 0, count-append)
 
--- one turn: what is read at place j, counted
-turn : {s : State} {b : List ℕ} {n : Numbers} {f : Firsts} (k bit j total one : ℕ) (r : Read) → Ready s b n f → j < n .len
-    → r ≡ saidUnder (s .own) (s .round) (s .said) b (getD (n .at) j 0) (getD (f .at) j 0) → one ≡ cond (saysRead k bit r) 1 0
-    → total ≡ countIf (counted s b k bit) (take j (listed n)) → total + one ≡ countIf (counted s b k bit) (take (j + 1) (listed n))
-turn {s} {b} {n} {f} k bit j total one r ready h read said sum =
-    rw (sum, said, ready-says ready j k bit r h read) (sym (further (counted s b k bit) (listed n) j (omega (arith, h, ready-used ready))))
+module _ {s : State} {b f : List ℕ} (ready : Ready s b f) (bit j n : ℕ) (sum : n ≡ total s b bit j) where
+  -- one turn: the bit d that is read at place j, counted
+  turn : (d one : ℕ) → bit < 3 → j < s .heard .len → d ≡ bitUnder (s .own) (s .round) (s .said) b (getD (s .heard .at) j 0) (getD f j 0) → one ≡ cond (eqb d bit) 1 0
+      → n + one ≡ total s b bit (j + 1)
+  turn d one l h read asked =
+      let more : one ≡ cond (counted s b bit (getD (listed (s .heard)) j 0)) 1 0 =
+      asked ∙ ap (λ (t : Bool). cond t 1 0) (ap (λ (i : ℕ). eqb i bit) read ∙ ready-says ready j bit h l) in
+      rw (sum, more) (sym (further (counted s b bit) (listed (s .heard)) j (omega (arith, h, ready-used ready))))
+
+  -- the last turn has counted all of them
+  ended : s .heard .len ≤ j → n ≡ countIf (counted s b bit) (heardAfter (view s) (entries b))
+  ended h = sum ∙ ap (countIf (counted s b bit)) (take-all j (listed (s .heard)) (omega (arith, h, ready-used ready)) ∙ ready-listed ready)
 
 abbrev Inv-loop : tie.InvT-loop
-Inv-loop state tray kind heard firsts len zeros₀ ones₀ j₀ zeros ones j =
-    (j ≤ len)
-    × (zeros ≡ countIf (counted state tray kind 0) (take j (listed heard)))
-    × (ones ≡ countIf (counted state tray kind 1) (take j (listed heard)))
+Inv-loop fields heard tray firsts zeros₀ ones₀ j₀ zeros ones j =
+    (j ≤ fields .heard)
+    × (zeros ≤ j)
+    × (ones ≤ j)
+    × ((c e : List ℕ) → Ready (stateOf fields heard c e) tray firsts → (zeros ≡ total (stateOf fields heard c e) tray 0 j) × (ones ≡ total (stateOf fields heard c e) tray 1 j))
 
 abbrev μ-loop : tie.MeasureT-loop
-μ-loop state tray kind heard firsts len zeros₀ ones₀ j₀ zeros ones j = len - j
+μ-loop fields heard tray firsts zeros₀ ones₀ j₀ zeros ones j = fields .heard - j
 
-one-most : (t : Bool) → cond t 1 0 ≤ 1
-one-most true = omega arith
-one-most false = omega arith
+one-most : (d bit : ℕ) → cond (eqb d bit) 1 0 ≤ 1
+one-most d bit = pick (eqb d bit)
+  where
+    pick : (t : Bool) → cond t 1 0 ≤ 1
+    pick true = omega arith
+    pick false = omega arith
 
 -- a place of the list is one of 64
-inside : (c : tie.In-loop Inv-loop μ-loop) → c .before .loop .j < 64
-inside c = omega (arith, c .loop-test .taken, ready-few (c .before .before .before .pre))
+inside : (c : tie.Then1 Inv-loop μ-loop) → c .before .before .loop .j < maxNumbers
+inside c = omega (arith, c .if1 .taken, c .before .before .before .before .pre)
 
 loop-holds : tie.Need-loop-holds Inv-loop μ-loop
-loop-holds c = (search needs, refl, refl)
+loop-holds c = (omega arith, omega arith, omega arith, λ x e ready. (refl, refl))
 
-mul-received-said : tie.Need-mul-received-said Inv-loop μ-loop
-mul-received-said c = omega (arith, inside c)
+mul-received-bit : tie.Need-mul-received-bit Inv-loop μ-loop
+mul-received-bit c = omega (arith, inside c)
 
-element-copy-out-received-said : tie.Need-element-copy-out-received-said Inv-loop μ-loop
-element-copy-out-received-said c = omega (arith, inside c)
+element-copy-out-received-bit : tie.Need-element-copy-out-received-bit Inv-loop μ-loop
+element-copy-out-received-bit c = omega (arith, inside c)
 
-mul-received-said-2 : tie.Need-mul-received-said-2 Inv-loop μ-loop
-mul-received-said-2 c = omega (arith, inside (c .before))
+mul-received-bit-2 : tie.Need-mul-received-bit-2 Inv-loop μ-loop
+mul-received-bit-2 c = omega (arith, inside (c .before))
 
-element-copy-out-received-said-2 : tie.Need-element-copy-out-received-said-2 Inv-loop μ-loop
-element-copy-out-received-said-2 c = omega (arith, inside (c .before))
+element-copy-out-received-bit-2 : tie.Need-element-copy-out-received-bit-2 Inv-loop μ-loop
+element-copy-out-received-bit-2 c = omega (arith, inside (c .before))
 
-received-said-requires : tie.Need-received-said-requires Inv-loop μ-loop
-received-said-requires c κs = search needs
+received-bit-requires : tie.Need-received-bit-requires Inv-loop μ-loop
+received-bit-requires c κs = search needs
 
 one-if-requires : tie.Need-one-if-requires Inv-loop μ-loop
 one-if-requires c κs = search needs
 
 add-zeros : tie.Need-add-zeros Inv-loop μ-loop
 add-zeros c =
-    let v = c .before .before .before .before .before .loop in
-    let a = c .before .before .before .before .before .before .before .args in
-    omega (arith, inside (c .before .before .before .before), v .inv .1, bound (counted (a .state) (now (a .tray)) (a .kind) 0) (listed (a .t3)) (v .j), c .one-if .ensures, one-most (saysRead (a .kind) 0 (c .before .received-said .result)))
+    let v = c .before .before .before .before .before .before .loop in
+    omega (arith, inside (c .before .before .before .before), v .inv .1, c .one-if .ensures, one-most (c .before .received-bit .result) 0)
 
 one-if-requires-2 : tie.Need-one-if-requires-2 Inv-loop μ-loop
 one-if-requires-2 c κs = search needs
 
 add-ones : tie.Need-add-ones Inv-loop μ-loop
 add-ones c =
-    let v = c .before .before .before .before .before .before .loop in
-    let a = c .before .before .before .before .before .before .before .before .args in
-    omega (arith, inside (c .before .before .before .before .before), v .inv .2, bound (counted (a .state) (now (a .tray)) (a .kind) 1) (listed (a .t3)) (v .j), c .one-if2 .ensures, one-most (saysRead (a .kind) 1 (c .before .before .received-said .result)))
+    let v = c .before .before .before .before .before .before .before .loop in
+    omega (arith, inside (c .before .before .before .before .before), v .inv .2, c .one-if2 .ensures, one-most (c .before .before .received-bit .result) 1)
 
 add-j : tie.Need-add-j Inv-loop μ-loop
-add-j c = search needs
+add-j c = omega (arith, inside (c .before .before .before .before .before))
 
 loop-less : tie.Need-loop-less Inv-loop μ-loop
-loop-less c = search needs
+loop-less c = omega (arith, c .before .before .before .before .before .if1 .taken)
 
 loop-again : tie.Need-loop-again Inv-loop μ-loop
 loop-again c =
-    let v = c .before .before .before .before .before .before .loop in
-    let pre = c .before .before .before .before .before .before .before .before .pre in
-    let h = c .before .before .before .before .before .loop-test .taken in (
-      search needs,
-      turn _ 0 (v .j) _ _ _ pre h (c .before .before .received-said .ensures) (c .before .one-if .ensures) (v .inv .1),
-      turn _ 1 (v .j) _ _ _ pre h (c .before .before .received-said .ensures) (c .one-if2 .ensures) (v .inv .2),
+    let v = c .before .before .before .before .before .before .before .loop in
+    let h = c .before .before .before .before .before .if1 .taken in
+    let bit = c .before .before .received-bit in (
+      omega (arith, h),
+      omega (arith, v .inv .1, c .before .one-if .ensures, one-most (bit .result) 0),
+      omega (arith, v .inv .2, c .one-if2 .ensures, one-most (bit .result) 1),
+      λ x e ready. (
+        turn ready 0 (v .j) (v .zeros) (v .inv .3 x e ready .0) _ _ (omega arith) h (bit .ensures) (c .before .one-if .ensures),
+        turn ready 1 (v .j) (v .ones) (v .inv .3 x e ready .1) _ _ (omega arith) h (bit .ensures) (c .one-if2 .ensures),
+      ),
     )
 
 returns : tie.Need-returns Inv-loop μ-loop
-returns c =
-    let v = c .before .loop in
-    let pre = c .before .before .before .pre in
-    let l = listed (c .before .before .before .args .t3) in
-    let past : length l ≤ v .j = omega (arith, c .loop-test .left, ready-used pre) in
+returns c x e ready =
+    let v = c .before .before .loop in
+    let counts = v .inv .3 x e ready in
     record {
-      zeros = v .inv .1 ∙ rw (take-all (v .j) l past, ready-listed pre);
-      ones = v .inv .2 ∙ rw (take-all (v .j) l past, ready-listed pre);
+      zeros = ended ready 0 (v .j) (v .zeros) (counts .0) (c .if1 .left);
+      ones = ended ready 1 (v .j) (v .ones) (counts .1) (c .if1 .left);
+      own = sound-gives _ (ready .sound) .bit;
     }
 
 pub count-bits-spec : {M : Type 1} → statement M
@@ -129,11 +141,11 @@ count-bits-spec =
     Inv-loop
     μ-loop
     loop-holds
-    mul-received-said
-    element-copy-out-received-said
-    mul-received-said-2
-    element-copy-out-received-said-2
-    received-said-requires
+    mul-received-bit
+    element-copy-out-received-bit
+    mul-received-bit-2
+    element-copy-out-received-bit-2
+    received-bit-requires
     one-if-requires
     add-zeros
     one-if-requires-2

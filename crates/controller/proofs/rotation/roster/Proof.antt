@@ -1,26 +1,28 @@
--- `controller::rotation::roster` meets its contract: after j turns the list has the senders of init among the first j of those heard, of whom there are at most 64.
+-- `controller::rotation::roster` meets its contract: after j turns the list has those of the first j heard that sent init.
 use Prim.Native.Nat.{ℕ, _+_, _-_, _≤_, _<_}
 use mathlib.Core.Bool.{Bool, true, false}
 use mathlib.Core.List.{List, [], _∷_, _++_, append-nil}
 use mathlib.Core.Logic.{inl, inr}
-use mathlib.Core.Path.{refl, _≡_, sym, ap, _∙_}
+use mathlib.Core.Path.{_≡_, sym, ap, _∙_}
 use native.Mathlib.Numerals.{add-one}
 use native.Mathlib.Omega.{arith}
 use borrow.Author.Needs.{needs}
+use borrow.Author.Tests.{eq-eqb, ne-eqb}
 use denote.Ref.{now}
-use lib.ListN.{length, getD, take, length-take, length-append}
+use lib.Dec.{eqb}
+use lib.ListN.{length, getD, set, take, length-append, length-replicate}
 use lib.Seq.{take-suc, take-all, getD-take}
-use Rattle.controller.specs.Laws.Storage.{grown-fits}
-use Rattle.controller.specs.Laws.Lists.{keep-append, keep-length}
-use Rattle.controller.specs.Laws.Ready.{ready-listed, ready-used, ready-few}
-use Rattle.controller.specs.Laws.Received.{stored-says}
+use Rattle.controller.specs.Fields.{stateOf}
+use Rattle.controller.specs.Laws.Lists.{keep-append}
+use Rattle.controller.specs.Laws.Ready.{ready-listed, ready-used, ready-says}
+use Rattle.controller.specs.Laws.Storage.{opened-first, opened-stored, inserted-last}
 use Rattle.controller.specs.Lists.{keep}
 use Rattle.controller.specs.Received.{received, says}
 use Rattle.controller.specs.Rotation.{roster}
 use Rattle.controller.specs.State.{view}
-use Rattle.controller.specs.Storage.{grown}
-use Rattle.controller.specs.declared.lists.Grown.{Grown}
+use Rattle.controller.specs.Storage.{Ready, bitUnder}
 use Rattle.controller.specs.declared.state.State.{State}
+use Rattle.wire.specs.Frame.{kindOf}
 use Rattle.wire.specs.Laws.Numbers.{listed-stored}
 use Rattle.wire.specs.Limits.{maxNumbers}
 use Rattle.wire.specs.Numbers.{stored, listed}
@@ -33,94 +35,131 @@ use Rattle.controller.proofs.rotation.roster.Tie as tie
 abbrev sent-init : State → List ℕ → ℕ → Bool
 sent-init s b x = says 1 2 (received (view s) (entries b) x)
 
-module _ (f : ℕ → Bool) (l : List ℕ) (j : ℕ) where
-  bound : length (keep f (take j l)) ≤ j
-  bound = omega (arith, keep-length f (take j l), length-take j l)
+-- those of the first j heard that did
+abbrev senders : State → List ℕ → ℕ → List ℕ
+senders s b j = keep (sent-init s b) (take j (listed (s .heard)))
 
-  passes : j < length l → f (getD l j 0) ≡ true → keep f (take (j + 1) l) ≡ keep f (take j l) ++ getD l j 0 ∷ []
-  passes h t = rw (add-one j, take-suc l j 0, keep-append, t)
+module _ (f : ℕ → Bool) (l : List ℕ) (j : ℕ) (h : j < length l) where
+  passes : f (getD l j 0) ≡ true → keep f (take (j + 1) l) ≡ keep f (take j l) ++ getD l j 0 ∷ []
+  passes t = rw (add-one j, take-suc l j 0, keep-append, t)
 
-  fails : j < length l → f (getD l j 0) ≡ false → keep f (take (j + 1) l) ≡ keep f (take j l)
-  fails h t = rw (add-one j, take-suc l j 0, keep-append, t) (append-nil (keep f (take j l)))
+  fails : f (getD l j 0) ≡ false → keep f (take (j + 1) l) ≡ keep f (take j l)
+  fails t = rw (add-one j, take-suc l j 0, keep-append, t) (append-nil (keep f (take j l)))
 
 -- a number behind a list that is not full
-module _ (n : Numbers) (l : List ℕ) (e : n ≡ stored l) where
-  stays : stored (listed n) ≡ n
-  stays = ap (λ (m : Numbers). stored (listed m)) e ∙ ap stored (listed-stored l) ∙ sym e
+pushed : (n : Numbers) (l : List ℕ) (x : ℕ) → n ≡ stored l → n .len < maxNumbers → _≡_ {A = Numbers} (record { len = n .len + 1; at = set (n .at) (n .len) x }) (stored (l ++ x ∷ []))
+pushed n l x e h =
+    let same : listed n ≡ l = ap listed e ∙ listed-stored l in
+    let back : stored (listed n) ≡ n = ap stored same ∙ sym e in
+    let used : length (listed n) ≡ n .len = ap (λ (m : Numbers). m .len) back in
+    let size : length (n .at) ≡ length l + (maxNumbers - length l) = ap (λ (m : Numbers). length (m .at)) e ∙ simp (length-append, length-replicate) in
+    let most : length l ≡ n .len = sym (ap (λ (m : Numbers). m .len) e) in
+    opened-stored n (n .len) x (set (n .at) (n .len) x) back h (omega arith) (opened-first x (n .len) (n .at) (omega arith))
+    ∙ ap stored (inserted-last (n .len) x (listed n) used ∙ ap (λ (m : List ℕ). m ++ x ∷ []) same)
 
-  pushed : (x : ℕ) (g : Grown) → length l < maxNumbers → g ≡ grown (listed n ++ x ∷ []) n → g .list ≡ stored (l ++ x ∷ [])
-  pushed x g h d =
-      let same : listed n ≡ l = ap listed e ∙ listed-stored l in
-      let fits : length (l ++ x ∷ []) ≤ maxNumbers = rw length-append (omega arith) in
-      ap (λ (r : Grown). r .list) (rw same at d ∙ sym (grown-fits (l ++ x ∷ []) n (stored (l ++ x ∷ [])) fits refl))
+-- one turn: the bit d that is read at place j, and the list before it
+module _ {s : State} {b f : List ℕ} (ready : Ready s b f) (first : kindOf (s .round) ≡ 1) (j d : ℕ) (h : j < s .heard .len)
+    (read : d ≡ bitUnder (s .own) (s .round) (s .said) b (getD (s .heard .at) j 0) (getD f j 0)) (n : Numbers) (list : n ≡ stored (senders s b j)) where
+  asked : eqb d 2 ≡ sent-init s b (getD (listed (s .heard)) j 0)
+  asked =
+      ap (λ (i : ℕ). eqb i 2) read ∙ ready-says ready j 2 h (omega arith)
+      ∙ ap (λ (k : ℕ). says k 2 (received (view s) (entries b) (getD (listed (s .heard)) j 0))) first
+
+  within : j < length (listed (s .heard))
+  within = omega (arith, ready-used ready)
+
+  taken : d ≡ 2 → n .len < maxNumbers → _≡_ {A = Numbers} (record { len = n .len + 1; at = set (n .at) (n .len) (getD (s .heard .at) j 0) }) (stored (senders s b (j + 1)))
+  taken e room =
+      pushed n (senders s b j) (getD (s .heard .at) j 0) list room
+      ∙ ap stored (
+      ap (λ (x : ℕ). senders s b j ++ x ∷ []) (sym (getD-take (s .heard .len) (s .heard .at) j 0 h))
+      ∙ sym (passes (sent-init s b) (listed (s .heard)) j within (sym asked ∙ eq-eqb d 2 e))
+      )
+
+  left : (¬ (d ≡ 2)) → n ≡ stored (senders s b (j + 1))
+  left e = list ∙ ap stored (sym (fails (sent-init s b) (listed (s .heard)) j within (sym asked ∙ ne-eqb d 2 e)))
 
 abbrev Inv-loop : tie.InvT-loop
-Inv-loop state tray firsts heard len list₀ j₀ list j = (j ≤ len) × (list ≡ stored (keep (sent-init state tray) (take j (listed heard))))
+Inv-loop fields heard tray firsts list₀ k₀ j₀ list k j =
+    (j ≤ fields .heard)
+    × (k ≤ j)
+    × ((c e : List ℕ) → Ready (stateOf fields heard c e) tray firsts → kindOf (fields .round) ≡ 1
+    → _≡_ {A = Numbers} (record { len = k; at = list }) (stored (senders (stateOf fields heard c e) tray j)))
 
 abbrev μ-loop : tie.MeasureT-loop
-μ-loop state tray firsts heard len list₀ j₀ list j = len - j
+μ-loop fields heard tray firsts list₀ k₀ j₀ list k j = fields .heard - j
 
-no-numbers-requires : tie.Need-no-numbers-requires Inv-loop μ-loop
-no-numbers-requires c κs = search needs
+-- a place of the list is one of 64
+inside : (c : tie.Then1 Inv-loop μ-loop) → c .before .before .loop .j < maxNumbers
+inside c = omega (arith, c .if1 .taken, c .before .before .before .before .pre .0)
 
 loop-holds : tie.Need-loop-holds Inv-loop μ-loop
-loop-holds c = (search needs, c .no-numbers .ensures)
+loop-holds c = (omega arith, omega arith, λ x e ready first. ap (λ (s : List ℕ). record { len = 0; at = s }) (c .before .pre .1))
 
-received-requires : tie.Need-received-requires Inv-loop μ-loop
-received-requires c κs = (c .before .before .before .before .pre, c .loop-test .taken)
+mul-x : tie.Need-mul-x Inv-loop μ-loop
+mul-x c = omega (arith, inside c)
 
-read-says-requires : tie.Need-read-says-requires Inv-loop μ-loop
-read-says-requires c κs = search needs
+element-copy-out-x : tie.Need-element-copy-out-x Inv-loop μ-loop
+element-copy-out-x c = omega (arith, inside c)
 
-mul-push : tie.Need-mul-push Inv-loop μ-loop
-mul-push c = omega (arith, c .before .before .before .loop-test .taken, ready-few (c .before .before .before .before .before .before .before .pre))
+mul-received-bit : tie.Need-mul-received-bit Inv-loop μ-loop
+mul-received-bit c = omega (arith, inside (c .before))
 
-element-copy-out-push : tie.Need-element-copy-out-push Inv-loop μ-loop
-element-copy-out-push c = omega (arith, c .before .before .before .loop-test .taken, ready-few (c .before .before .before .before .before .before .before .pre))
+element-copy-out-received-bit : tie.Need-element-copy-out-received-bit Inv-loop μ-loop
+element-copy-out-received-bit c = omega (arith, inside (c .before))
 
-push-requires : tie.Need-push-requires Inv-loop μ-loop
-push-requires c κs =
-    let a = c .before .before .before .before .before .before .before .before .args in
-    let v = c .before .before .before .before .before .loop in
-    let l = keep (sent-init (a .state) (now (a .tray))) (take (v .j) (listed (a .t3))) in
-    let same : v .list .len ≡ length l = ap (λ (m : Numbers). m .len) (v .inv .1) in
-    let most = bound (sent-init (a .state) (now (a .tray))) (listed (a .t3)) (v .j) in
-    (stays (v .list) l (v .inv .1), omega (arith, v .inv .0, ready-few (c .before .before .before .before .before .before .before .before .pre)))
+received-bit-requires : tie.Need-received-bit-requires Inv-loop μ-loop
+received-bit-requires c κs = search needs
+
+-- the next free place is one of 64 too
+free : (c : tie.Then2 Inv-loop μ-loop) → c .before .before .before .before .before .before .loop .k < maxNumbers
+free c = omega (arith, c .before .before .before .before .before .before .loop .inv .1, inside (c .before .before .before .before))
+
+mul-list : tie.Need-mul-list Inv-loop μ-loop
+mul-list c = omega (arith, free c)
+
+element-write-list : tie.Need-element-write-list Inv-loop μ-loop
+element-write-list c = omega (arith, free c)
+
+add-k : tie.Need-add-k Inv-loop μ-loop
+add-k c = omega (arith, free c)
 
 add-j : tie.Need-add-j Inv-loop μ-loop
-add-j c = search needs
+add-j c = omega (arith, inside (c .before .before .before .before))
 
 loop-less : tie.Need-loop-less Inv-loop μ-loop
-loop-less c = search needs
+loop-less c = omega (arith, c .before .before .before .before .if1 .taken)
 
 loop-again : tie.Need-loop-again Inv-loop μ-loop
 loop-again c =
-    let a = c .before .before .before .before .before .before .before .args in
-    let v = c .before .before .before .before .loop in
-    let l = listed (a .t3) in
-    let x = getD (a .t3 .at) (v .j) 0 in
-    let f = sent-init (a .state) (now (a .tray)) in
-    let h : v .j < length l = omega (arith, c .before .before .before .loop-test .taken, ready-used (c .before .before .before .before .before .before .before .pre)) in
-    let room : length (keep f (take (v .j) l)) < maxNumbers = omega (arith, bound f l (v .j), c .before .before .before .loop-test .taken, ready-few (c .before .before .before .before .before .before .before .pre)) in
-    let o = received (view (a .state)) (entries (now (a .tray))) (getD l (v .j) 0) in
-    let asked : f (getD l (v .j) 0) ≡ c .before .read-says .result =
-    sym (stored-says (c .before .before .received .result) o 1 2 (c .before .before .received .ensures)) ∙ sym (c .before .read-says .ensures) in (
-      search needs,
-      elim (c .if1 .came) [
-        | inl p ↦
-            let put = pushed (v .list) (keep f (take (v .j) l)) (v .inv .1) x (p .2 .result) room (p .2 .ensures) in
-            p .4 ∙ put ∙ ap stored (sym (rw (getD-take (a .t3 .len) (a .t3 .at) (v .j) 0 (c .before .before .before .loop-test .taken)) at (passes f l (v .j) h (asked ∙ p .0 .taken))))
-        | inr p ↦ p .1 ∙ v .inv .1 ∙ ap stored (sym (fails f l (v .j) h (asked ∙ p .0 .left)))
-      ],
-    )
+    let v = c .before .before .before .before .before .before .loop in
+    let h = c .before .before .before .before .if1 .taken in
+    let room : v .k < maxNumbers = omega (arith, v .inv .1, inside (c .before .before .before .before)) in
+    elim (c .if2 .came) [
+      | inl p ↦ (
+        omega (arith, h),
+        omega (arith, p .2, v .inv .1),
+        λ x e ready first.
+            (λ i. record { len = p .2 i; at = p .1 i })
+            ∙ taken ready first (v .j) _ h (c .before .received-bit .ensures) (record { len = v .k; at = v .list }) (v .inv .2 x e ready first) (p .0 .taken) room,
+      )
+      | inr p ↦ (
+        omega (arith, h),
+        omega (arith, p .2, v .inv .1),
+        λ x e ready first.
+            (λ i. record { len = p .2 i; at = p .1 i })
+            ∙ left ready first (v .j) _ h (c .before .received-bit .ensures) (record { len = v .k; at = v .list }) (v .inv .2 x e ready first) (p .0 .left),
+      )
+    ]
 
 returns : tie.Need-returns Inv-loop μ-loop
 unfolding roster
-returns c =
-    let v = c .before .loop in
-    let l = listed (c .before .before .before .before .args .t3) in
-    let past : length l ≤ v .j = omega (arith, c .loop-test .left, ready-used (c .before .before .before .before .pre)) in
-    v .inv .1 ∙ rw (take-all (v .j) l past, ready-listed (c .before .before .before .before .pre))
+returns c x e ready first =
+    let v = c .before .before .loop in
+    let s = stateOf (c .before .before .before .before .args .fields) (now (c .before .before .before .before .args .heard)) x e in
+    v .inv .2 x e ready first
+    ∙ ap (λ (l : List ℕ). stored (keep (sent-init s (now (c .before .before .before .before .args .tray))) l))
+    (take-all (v .j) (listed (s .heard)) (omega (arith, c .if1 .left, ready-used ready)) ∙ ready-listed ready)
 
 pub roster-spec : {M : Type 1} → statement M
 roster-spec =
@@ -128,13 +167,15 @@ roster-spec =
     (tie.spec
     Inv-loop
     μ-loop
-    no-numbers-requires
     loop-holds
-    received-requires
-    read-says-requires
-    mul-push
-    element-copy-out-push
-    push-requires
+    mul-x
+    element-copy-out-x
+    mul-received-bit
+    element-copy-out-received-bit
+    received-bit-requires
+    mul-list
+    element-write-list
+    add-k
     add-j
     loop-less
     loop-again

@@ -1,0 +1,17 @@
+-- `controller::received::received_bit` meets its contract: the test gives `bitUnder` its case.
+use borrow.Author.Needs.{needs}
+use borrow.Author.Tests.{eq-eqb, ne-eqb}
+use Rattle.controller.proofs.received.received_bit.Statement.{statement}
+use Rattle.controller.proofs.received.received_bit.Tie as tie
+
+entry-bit-requires : tie.Need-entry-bit-requires
+entry-bit-requires c κs = search needs
+
+returns : tie.Need-returns
+returns c = rw (eq-eqb _ _ (c .if1 .taken))
+
+returns-2 : tie.Need-returns-2
+returns-2 c = rw (ne-eqb _ _ (c .before .if1 .left)) (c .entry-bit .ensures)
+
+pub received-bit-spec : {M : Type 1} → statement M
+received-bit-spec = tie.close (tie.spec entry-bit-requires returns returns-2)
