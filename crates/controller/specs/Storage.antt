@@ -9,7 +9,7 @@
 --     bitUnder o t d b x i     that frame's bit, where o is the own number, t the round and d said; 3 where it is void
 --     listUnder f e b x i      that frame's list, where f are the state's fields and e the places of its echoes
 --     Alike o b l n f j r      under each of the r numbers from place j on, of the n numbers l with their first entries f, the same bytes are received, or r is 1; o is the own number
---     CountsBits k v es r      r has how many of those heard sent each bit in a frame of kind k, and the own bit is one of the two
+--     CountsBits k v es r      r has how many of those heard sent each bit in a frame of kind k
 --     Fillable f h e b t n     what filling in the lists finds: a state that is ready for the tray b, with room for n keys
 --     Tallies s b k r at       the keys k, in the runs r of the lengths at, count each number as the received lists do
 --     echoesIn c n l           of the keys l, counted in n lists, the numbers that reach a third and are not in c
@@ -102,7 +102,6 @@ pub record Alike (own : ℕ) (b l : List ℕ) (n : ℕ) (f : List ℕ) (j r : �
 pub record CountsBits (k : ℕ) (v : View) (es : List Entry) (r : Counts) : Type 0 where
   pub zeros : r .zeros ≡ count (says k 0) v es
   pub ones : r .ones ≡ count (says k 1) v es
-  pub own : v .bit ≤ 1
 
 pub record Fillable (f : Fields) (h e b t : List ℕ) (n : ℕ) : Type 0 where
   pub candidates : List ℕ

@@ -131,7 +131,7 @@ fn opinion_of(fields: Fields, bit: u8) -> u8
 
 // What the counts of proposals among `h` make of the bit.
 pub(crate) fn spoken(fields: Fields, counts: Counts, h: usize) -> Turn
-    requires { ⌜ (counts .zeros ≤ maxNumbers) × (counts .ones ≤ maxNumbers) × (h ≤ maxNumbers) ⌝ }
+    requires { ⌜ (counts .zeros ≤ maxNumbers) × (counts .ones ≤ maxNumbers) × (h ≤ maxNumbers) × (fields .bit ≤ 1) ⌝ }
     ensures { λ r. ⌜ ((l c e : List ℕ) (es : List Entry) → CountsBits 4 (view (stateOf fields l c e)) es counts → h ≡ length (heardAfter (view (stateOf fields l c e)) es) → TurnsBit (view (stateOf fields l c e)) es r) ⌝ }
 {
     let zeros = counts.zeros;

@@ -1,5 +1,5 @@
 -- `controller::bit::spoken` meets its contract: the bit, strong and said are those of the rules, since the two counts are; an own bit that is not 0 is 1.
-use Prim.Native.Nat.{ℕ}
+use Prim.Native.Nat.{ℕ, _≤_}
 use mathlib.Core.Bool.{cond, _&&_}
 use mathlib.Core.List.{List}
 use mathlib.Core.Logic.{_≢_}
@@ -34,8 +34,8 @@ module _ {v : View} {es : List Entry} {n : Counts} {h b d : ℕ} (counts : Count
   turned-zero : (s : ℕ) → b ≡ 0 → s ≡ cond (twoThirds (n .zeros) h) 1 0 → TurnsBit v es (record { bit = b; strong = s; said = d })
   turned-zero s e strong = turned 0 (n .zeros) s e (counts .zeros) strong
 
-  turned-one : (s : ℕ) → b ≢ 0 → s ≡ cond (twoThirds (n .ones) h) 1 0 → TurnsBit v es (record { bit = b; strong = s; said = d })
-  turned-one s e strong = turned 1 (n .ones) s (omega (arith, adopted-is, bit-adopted-bound v es (counts .own))) (counts .ones) strong
+  turned-one : (s : ℕ) → v .bit ≤ 1 → b ≢ 0 → s ≡ cond (twoThirds (n .ones) h) 1 0 → TurnsBit v es (record { bit = b; strong = s; said = d })
+  turned-one s own e strong = turned 1 (n .ones) s (omega (arith, adopted-is, bit-adopted-bound v es own)) (counts .ones) strong
 
 adopted-requires : tie.Need-adopted-requires
 adopted-requires c κs = (c .pre .0, c .pre .1)
@@ -58,7 +58,7 @@ returns c l x e es counts heard =
 returns-2 : tie.Need-returns-2
 unfolding adoptedFrom
 returns-2 c l x e es counts heard =
-    turned-one counts heard (c .before .before .before .adopted .ensures) (c .before .before .opinion-of .ensures) _ (c .before .if1 .left) (c .strong-of2 .ensures)
+    turned-one counts heard (c .before .before .before .adopted .ensures) (c .before .before .opinion-of .ensures) _ (c .before .before .before .before .pre .3) (c .before .if1 .left) (c .strong-of2 .ensures)
 
 pub spoken-spec : {M : Type 1} → statement M
 spoken-spec =

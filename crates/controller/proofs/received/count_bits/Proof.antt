@@ -131,7 +131,6 @@ returns c x e ready =
     record {
       zeros = ended ready 0 (v .j) (v .zeros) (counts .0) (c .if1 .left);
       ones = ended ready 1 (v .j) (v .ones) (counts .1) (c .if1 .left);
-      own = sound-gives _ (ready .sound) .bit;
     }
 
 pub count-bits-spec : {M : Type 1} → statement M

@@ -19,7 +19,7 @@ spoken-requires : tie.Need-spoken-requires
 spoken-requires c κs =
     let ready = c .before .before .pre .1 .2 in
     let few = counts-few ready (c .count-bits .ensures _ _ ready) in
-    (few .0, few .1, ready-few ready)
+    (few .0, few .1, ready-few ready, sound-gives _ (ready .sound) .bit)
 
 add-next : tie.Need-add-next
 add-next c = omega (arith, (given c) .pre .0)
