@@ -154,7 +154,7 @@ pub(crate) fn count_bits(
     firsts: &[usize; MAX_NUMBERS],
 ) -> Counts
     requires { ⌜ fields .heard ≤ maxNumbers ⌝ }
-    ensures { λ r. ⌜ ((c e : List ℕ) → Ready (stateOf fields (now (heard .entry)) c e) (now (tray .entry)) (now (firsts .entry)) → CountsBits (kindOf (fields .round)) (view (stateOf fields (now (heard .entry)) c e)) (entries (now (tray .entry))) r) ⌝ }
+    ensures { λ r. ⌜ (r .zeros ≤ fields .heard) × (r .ones ≤ fields .heard) × ((c e : List ℕ) → Ready (stateOf fields (now (heard .entry)) c e) (now (tray .entry)) (now (firsts .entry)) → CountsBits (kindOf (fields .round)) (view (stateOf fields (now (heard .entry)) c e)) (entries (now (tray .entry))) r) ⌝ }
 {
     let mut zeros = 0;
     let mut ones = 0;

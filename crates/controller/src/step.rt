@@ -68,7 +68,7 @@ fn make_propose(
     tray: &[u8],
     firsts: &[usize; MAX_NUMBERS],
 ) -> Fields
-    requires { ⌜ (fields .round < lastRound) × ((c : List ℕ) × (e : List ℕ) × Ready (stateOf fields (now heard) c e) (now tray) (now firsts)) ⌝ }
+    requires { ⌜ (fields .heard ≤ maxNumbers) × (fields .round < lastRound) ⌝ }
     ensures { λ r. ⌜ ((c e : List ℕ) → Ready (stateOf fields (now (heard .entry)) c e) (now (tray .entry)) (now (firsts .entry)) → kindOf (fields .round + 1) ≡ 4 → Makes (stateOf fields (now (heard .entry)) c e) (now (tray .entry)) true (stateOf r (now (heard .entry)) c e)) ⌝ }
 {
     let mut next = fields;
@@ -84,7 +84,7 @@ fn make_turn(
     tray: &[u8],
     firsts: &[usize; MAX_NUMBERS],
 ) -> Fields
-    requires { ⌜ (fields .round < lastRound) × ((c : List ℕ) × (e : List ℕ) × Ready (stateOf fields (now heard) c e) (now tray) (now firsts)) ⌝ }
+    requires { ⌜ (fields .heard ≤ maxNumbers) × (fields .round < lastRound) × (fields .bit ≤ 1) ⌝ }
     ensures { λ r. ⌜ ((c e : List ℕ) → Ready (stateOf fields (now (heard .entry)) c e) (now (tray .entry)) (now (firsts .entry)) → kindOf (fields .round + 1) ≡ 5 → Makes (stateOf fields (now (heard .entry)) c e) (now (tray .entry)) true (stateOf r (now (heard .entry)) c e)) ⌝ }
 {
     let mut next = fields;

@@ -20,7 +20,7 @@ use Rattle.controller.specs.Rotation.{roster, echoed, candidatesAfter, d
 use Rattle.controller.specs.Bit.{bitTaken, decisionAfter, valueTwoThirds, proposal}
 use Rattle.controller.specs.Rules.{makeRoster, makePropose, makeTurn, next}
 use Rattle.controller.specs.Storage.{Ready, CountsBits, proposedFrom, TurnsBit, Grows, namedState, Makes}
-use Rattle.controller.specs.Laws.Lists.{count-length, keep-length}
+use Rattle.controller.specs.Laws.Lists.{keep-length}
 use Rattle.controller.specs.Laws.State.{sound-gives, sound-stored}
 use Rattle.controller.specs.Laws.Ready.{ready-size, ready-short}
 use Rattle.controller.specs.Laws.Rules.{kind-init, heard-known, next-kind-roster, next-kind-value, next-kind-propose, next-kind-turn}
@@ -109,15 +109,6 @@ module _ {s : State} {b f : List ℕ} (r : Ready s b f) where
       let v = sound-gives s (r .sound) in
       let none : listed (s .echoes) ≡ [] = v .no-echoes (omega (arith, kind-init (s .round) (v .early) k)) in
       ap (λ (n : Numbers). n .at) (sym (kept s (r .sound) .echoes) ∙ ap stored none)
-
-  pub counts-few : {k : ℕ} {n : Counts} → CountsBits k (view s) (entries b) n → (n .zeros ≤ maxNumbers) × (n .ones ≤ maxNumbers)
-  counts-few {k} counts =
-      let v = view s in
-      let es = entries b in
-      let short = ready-short r in (
-        omega (arith, counts .zeros, count-length (λ (x : ℕ). says k 0 (received v es x)) (heardAfter v es)),
-        omega (arith, counts .ones, count-length (λ (x : ℕ). says k 1 (received v es x)) (heardAfter v es)),
-      )
 
   -- making round 3 the bit stays: nobody has been king
   pub first-taken : s .round < 3 → s .bit ≡ bitTaken (view s) (entries b)

@@ -12,7 +12,6 @@ use lib.Seq.{take-suc, take-all}
 use Rattle.controller.specs.Fields.{stateOf}
 use Rattle.controller.specs.Laws.Lists.{count-append}
 use Rattle.controller.specs.Laws.Ready.{ready-listed, ready-used, ready-says}
-use Rattle.controller.specs.Laws.State.{sound-gives}
 use Rattle.controller.specs.Lists.{countIf}
 use Rattle.controller.specs.Received.{heardAfter, received, says}
 use Rattle.controller.specs.State.{view}
@@ -125,13 +124,17 @@ loop-again c =
     )
 
 returns : tie.Need-returns Inv-loop μ-loop
-returns c x e ready =
-    let v = c .before .before .loop in
-    let counts = v .inv .3 x e ready in
-    record {
-      zeros = ended ready 0 (v .j) (v .zeros) (counts .0) (c .if1 .left);
-      ones = ended ready 1 (v .j) (v .ones) (counts .1) (c .if1 .left);
-    }
+returns c =
+    let v = c .before .before .loop in (
+      omega (arith, v .inv .0, v .inv .1),
+      omega (arith, v .inv .0, v .inv .2),
+      λ x e ready.
+      let counts = v .inv .3 x e ready in
+      record {
+        zeros = ended ready 0 (v .j) (v .zeros) (counts .0) (c .if1 .left);
+        ones = ended ready 1 (v .j) (v .ones) (counts .1) (c .if1 .left);
+      },
+    )
 
 pub count-bits-spec : {M : Type 1} → statement M
 count-bits-spec =

@@ -2,10 +2,10 @@
 use native.Mathlib.Omega.{arith}
 use denote.Ref.{now}
 use Rattle.wire.specs.Tray.{entries}
-use Rattle.controller.specs.Laws.Ready.{ready-few, ready-size}
+use Rattle.controller.specs.Laws.Ready.{ready-size}
 use Rattle.controller.specs.Laws.Rules.{kind-before}
 use Rattle.controller.specs.Laws.State.{sound-gives}
-use Rattle.controller.specs.Laws.Step.{counts-few, turn-made}
+use Rattle.controller.specs.Laws.Step.{turn-made}
 use Rattle.controller.proofs.step.make_turn.Statement.{statement}
 use Rattle.controller.proofs.step.make_turn.Tie as tie
 
@@ -13,20 +13,20 @@ abbrev given : tie.After-struct-known → tie.Start
 given c = c .before .before .before .before
 
 count-bits-requires : tie.Need-count-bits-requires
-count-bits-requires c κs = ready-few (c .before .pre .1 .2)
+count-bits-requires c κs = c .before .pre .0
 
 spoken-requires : tie.Need-spoken-requires
 spoken-requires c κs =
-    let ready = c .before .before .pre .1 .2 in
-    let few = counts-few ready (c .count-bits .ensures _ _ ready) in
-    (few .0, few .1, ready-few ready, sound-gives _ (ready .sound) .bit)
+    let pre = c .before .before .pre in
+    let counts = c .count-bits .ensures in
+    (omega (arith, pre .0, counts .0), omega (arith, pre .0, counts .1), pre .0, pre .2)
 
 add-next : tie.Need-add-next
-add-next c = omega (arith, (given c) .pre .0)
+add-next c = omega (arith, (given c) .pre .1)
 
 returns : tie.Need-returns
 returns c = λ w e ready k.
-    let proposals = rw (kind-before _ 1 (sound-gives _ (ready .sound) .early) k) at (c .before .before .count-bits .ensures w e ready) in
+    let proposals = rw (kind-before _ 1 (sound-gives _ (ready .sound) .early) k) at (c .before .before .count-bits .ensures .2 w e ready) in
     turn-made ready (c .before .spoken .result) k
     (c .before .spoken .ensures (now ((given c) .args .heard)) w e (entries (now ((given c) .args .tray))) proposals (ready-size ready))
 

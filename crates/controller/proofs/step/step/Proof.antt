@@ -50,10 +50,10 @@ make-value-requires c κs =
     ((given kind) .pre .0, kind-is kind 3 (c .before .before .before .before .if2 .taken), (given kind) .pre .1)
 
 make-propose-requires : tie.Need-make-propose-requires
-make-propose-requires c κs = let pre = (given (c .before .before .before)) .pre in (pre .1, (_, _, pre .0))
+make-propose-requires c κs = let pre = (given (c .before .before .before)) .pre in (ready-few (pre .0), pre .1)
 
 make-turn-requires : tie.Need-make-turn-requires
-make-turn-requires c κs = let pre = (given (c .before .before .before)) .pre in (pre .1, (_, _, pre .0))
+make-turn-requires c κs = let pre = (given (c .before .before .before)) .pre in (ready-few (pre .0), pre .1, sound-gives _ (pre .0 .sound) .bit)
 
 returns : tie.Need-returns
 returns c = let kind = c .before .before .before in c .make-roster .ensures _ ((given kind) .pre .0) (kind-is kind 2 (c .before .before .if1 .taken))
