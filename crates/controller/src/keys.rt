@@ -85,7 +85,8 @@ fn length_at(lens: &[usize; MAX_NUMBERS], len: usize, j: usize) -> usize
     if j < len { lens[j] } else { 0 }
 }
 
-// Merges the runs two by two into `dst`, and puts the lengths of those that come of it into `halves`.
+// Merges the runs two by two into `dst`, and puts the lengths of those that come of it into `halves`. Both lists of lengths are used as slices: of a
+// slice it is known how long it is, of a lent array it is not.
 fn halve(
     src: &[u64],
     lens: &[usize; MAX_NUMBERS],
@@ -96,15 +97,17 @@ fn halve(
     requires { ⌜ Keyed (now src) runs (now lens) × (length (now dst) ≡ length (now src)) ⌝ }
     ensures { λ r. ⌜ Halves (now (src .entry)) runs (now (dst .exit)) r (now (halves .exit)) ⌝ }
 {
+    let sizes = &lens[..];
+    let out = &mut halves[..];
     let mut from = 0;
     let mut to = 0;
     let mut i = 0;
     let mut j = 0;
     while j < runs.len {
-        let b = from + lens[j];
+        let b = from + sizes[j];
         let e = b + length_at(lens, runs.len, j + 1);
         let next = merge(src, from, b, e, dst, to);
-        halves[i] = next - to;
+        out[i] = next - to;
         from = e;
         to = next;
         i += 1;

@@ -39,21 +39,17 @@ pub(crate) struct Lists {
     pub candidates: usize,
 }
 
-// Puts the numbers of a list, each with a count, into `keys` from `to` on, and returns the place behind them.
-fn put_keys(
-    list: &[u32; MAX_NUMBERS],
-    len: usize,
-    count: u64,
-    keys: &mut [u64],
-    to: usize,
-) -> usize
+// Puts the numbers of a list, each with a count, into `keys` from `to` on, and returns the place behind them. The list is read as a slice: of that it is
+// known how long it is, and that its numbers fit 32 bits.
+fn put_keys(list: &[u32; MAX_NUMBERS], len: usize, count: u64, keys: &mut [u64], to: usize) -> usize
     requires { ⌜ (len ≤ maxNumbers) × (count ≤ maxNumbers) × (to + len ≤ length (now keys)) ⌝ }
     ensures { λ r. ⌜ PutsKeys count (listed (record { len = len; at = now (list .entry) })) (now (keys .entry)) (now (keys .exit)) to r ⌝ }
 {
+    let numbers = &list[..];
     let mut k = to;
     let mut i = 0;
     while i < len {
-        keys[k] = list[i] as u64 * 128 + count;
+        keys[k] = numbers[i] as u64 * 128 + count;
         k += 1;
         i += 1;
     }
@@ -118,7 +114,7 @@ fn put_received(
     keys: &mut [u64],
     to: usize,
 ) -> usize
-    requires { ⌜ (fields .echoes ≤ maxNumbers) × (count ≤ maxNumbers) × (to + length (listUnder fields (now echoes) (now tray) x entry) ≤ length (now keys)) ⌝ }
+    requires { ⌜ (fields .echoes ≤ maxNumbers) × (length (now echoes) ≡ maxNumbers) × (count ≤ maxNumbers) × (to + length (listUnder fields (now echoes) (now tray) x entry) ≤ length (now keys)) ⌝ }
     ensures { λ r. ⌜ PutsKeys count (listUnder fields (now (echoes .entry)) (now (tray .entry)) x entry) (now (keys .entry)) (now (keys .exit)) to r ⌝ }
 {
     if x == fields.own {
@@ -191,7 +187,7 @@ fn alike(own: u32, tray: &[u8], heard: &[u32], len: usize, firsts: &[usize], j: 
 }
 
 // Puts the list received under each heard number into `keys`, one behind the other, and its length into `lens`. Equal lists that follow each other,
-// as correct controllers mostly send them, are put in once, with their number as the count.
+// as correct controllers mostly send them, are put in once, with their number as the count. `lens` is used as a slice, as in `halve`.
 fn fill(
     fields: Fields,
     heard: &[u32; MAX_NUMBERS],
@@ -204,6 +200,7 @@ fn fill(
     requires { ⌜ Fillable fields (now heard) (now echoes) (now tray) (now firsts) (length (now keys)) ⌝ }
     ensures { λ r. ⌜ Tallies (stateOf fields (now (heard .entry)) [] (now (echoes .entry))) (now (tray .entry)) (now (keys .exit)) r (now (lens .exit)) ⌝ }
 {
+    let sizes = &mut lens[..];
     let mut runs = 0;
     let mut end = 0;
     let mut j = 0;
@@ -219,7 +216,7 @@ fn fill(
             keys,
             end,
         );
-        lens[runs] = next - end;
+        sizes[runs] = next - end;
         runs += 1;
         end = next;
         j += count;

@@ -9,7 +9,7 @@ use native.Mathlib.Numerals.{add-one}
 use native.Mathlib.Omega.{arith}
 use borrow.Author.Tests.{lt-ltb, le-ltb, eq-eqb, ne-eqb}
 use lib.Dec.{eqb}
-use lib.ListN.{length, getD, replicate, take, drop, set, length-append, length-set, length-take, take-append-drop, drop-of-length-le}
+use lib.ListN.{length, getD, take, drop, set, length-append, length-set, length-take, take-append-drop, drop-of-length-le}
 use lib.Seq.{take-set-lt, drop-set-lt, slice, slice-cons, slice-empty, length-slice, take-nil, take-take, take-length, drop-length, drop-drop, take-append-le, drop-append-le, length-take-le, take-suc-set, append-snoc}
 use Rattle.controller.specs.Lists.{In}
 use Rattle.wire.specs.Limits.{maxNumbers}
@@ -267,15 +267,15 @@ pub record Halving (src lens : List ℕ) (n end : ℕ) (dst out : List ℕ) (fro
   pub done : Cut (take i out) (take to dst)
   pub counts : (x : ℕ) → counted x (take to dst) + counted x (slice from end src) ≡ counted x (take end src)
 
-pub halving-start : (src : List ℕ) (r : Runs) (dst : List ℕ) → Keyed src r → length dst ≡ length src
-    → Halving src (r .at) (r .len) (r .end) dst (replicate maxNumbers 0) 0 0 0 0
-halving-start src r dst k same =
+pub halving-start : (src : List ℕ) (r : Runs) (lens dst out : List ℕ) → Keyed src r lens → length dst ≡ length src → length out ≡ maxNumbers
+    → Halving src lens (r .len) (r .end) dst out 0 0 0 0
+halving-start src r lens dst out k same size =
     record {
       pairs = refl;
       low = omega arith;
       short = omega arith;
       most = omega arith;
-      size = refl;
+      size = size;
       room = omega (arith, k .inside);
       left = k .cut;
       done = refl;
@@ -334,10 +334,10 @@ module _ (src lens : List ℕ) (n end : ℕ) (dst out : List ℕ) (from to i j :
               (omega (arith, counted-append x (take to dst) l, merged-counts (slice from b src) (slice b e src) halving-slim x, p .counts x, g .counts x));
         }
 
-pub halving-end : (src : List ℕ) (r : Runs) (dst out : List ℕ) (from to i j : ℕ) → Keyed src r
-    → Halving src (r .at) (r .len) (r .end) dst out from to i j → r .len ≤ j → Halves src r dst (record { len = i; end = to; at = out })
-halving-end src r dst out from to i j k g over =
-    let none : slice from (r .end) src ≡ [] = rw (slice-none j (r .len) (r .at) over) at (g .left) in
+pub halving-end : (src : List ℕ) (r : Runs) (lens dst out : List ℕ) (from to i j : ℕ) → Keyed src r lens
+    → Halving src lens (r .len) (r .end) dst out from to i j → r .len ≤ j → Halves src r dst (record { len = i; end = to }) out
+halving-end src r lens dst out from to i j k g over =
+    let none : slice from (r .end) src ≡ [] = rw (slice-none j (r .len) lens over) at (g .left) in
     let same : (x : ℕ) → counted x (take to dst) ≡ counted x (take (r .end) src) = λ x. omega (arith, rw none at (g .counts x)) in
     record {
       keyed =

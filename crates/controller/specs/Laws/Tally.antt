@@ -1,28 +1,29 @@
 -- Laws of the work on the tally: the received lists as keys count each number as `tally` does, and the lists that such keys give are the rules'.
 use Prim.Native.Nat.{ℕ, zero, suc, _+_, _*_, _-_, _/_, _%_, _≤_, _<_}
-use mathlib.Core.Bool.{true, not}
-use mathlib.Core.List.{List, [], _∷_, List·Memᴰ·head, List·Memᴰ·tail, List·Memᴰ·not-nil, Memᴰ·cast}
+use mathlib.Core.Bool.{Bool, true, false, not, cond}
+use mathlib.Core.List.{List, [], _∷_, _++_, List·Memᴰ·head, List·Memᴰ·tail, List·Memᴰ·not-nil, Memᴰ·cast}
 use mathlib.Core.Logic.{_⊎_, inl, inr}
 use mathlib.Core.Option.{Option, some, none}
 use mathlib.Core.Path.{_≡_, refl, sym, ap, _∙_}
 use native.Mathlib.Numerals.{add-one}
 use native.Mathlib.Omega.{arith}
 use borrow.Author.Tests.{leb-true, le-leb, not-true}
-use lib.Dec.{leb}
-use lib.ListN.{length, getD, set, take, drop, replicate, length-set, drop-of-length-le}
-use lib.Seq.{take-suc-set}
-use Rattle.wire.specs.Frame.{Content, writable}
+use lib.Dec.{leb, ltb, eqb}
+use lib.ListN.{length, getD, set, take, drop, length-append, length-replicate, length-set, drop-of-length-le}
+use lib.Seq.{take-suc-set, drop-cons, drop-drop}
+use Rattle.wire.specs.Frame.{Content, writable, kindOf, maxCount}
 use Rattle.wire.specs.Laws.Frame.{writable-gives, writable-count}
 use Rattle.wire.specs.Limits.{maxNumbers}
 use Rattle.wire.specs.Numbers.{stored, listed}
-use Rattle.wire.specs.Tray.{Entry, entries}
+use Rattle.wire.specs.Tray.{Entry, entries, place, bytesAt}
 use Rattle.wire.specs.Words.{Below}
 use Rattle.controller.specs.Lists.{In, mem, countIf}
 use Rattle.controller.specs.Keys.{counted, RisingKeys, merged, Slim, Cut, OneRun, keysOf, numbersIn, reaching, newTo, PutsKeys}
 use Rattle.controller.specs.State.{View, view, sound, soundList}
-use Rattle.controller.specs.Received.{heardAfter, received, listIn}
-use Rattle.controller.specs.Rotation.{tally, echoed, candidatesAfter}
-use Rattle.controller.specs.Storage.{Tallies, echoesIn, candidatesIn, SortsOut, GrowsLists}
+use Rattle.controller.specs.Fields.{stateOf}
+use Rattle.controller.specs.Received.{frameOf, heardAfter, readIn, received, listIn}
+use Rattle.controller.specs.Rotation.{tally, allLists, echoed, candidatesAfter}
+use Rattle.controller.specs.Storage.{listUnder, contentUnder, Tallies, echoesIn, candidatesIn, SortsOut, GrowsLists}
 use Rattle.controller.specs.Laws.Keys.{keys-length, keys-every, keys-rise, keys-counted, numbers-in, numbers-from, numbers-rise, key-count, counted-some, keep-keys, keep-counted}
 use Rattle.controller.specs.Laws.Merge.{counted-append, merged-counts, merged-every, merged-rises, cut-more}
 use Rattle.controller.specs.Laws.Lists.{true-or-false, in-mem, out-mem, mem-out, in-or-not, rising-gives, rising-same, count-length, count-run, keep-in}
@@ -31,6 +32,7 @@ use Rattle.controller.specs.Laws.State.{SoundList, Sound, sound-list-tes
 use Rattle.controller.specs.Laws.Received.{heard-some, received-allowed}
 use Rattle.controller.specs.Laws.Rotation.{echoed-in, echoed-rising, candidates-in, candidates-rising}
 use Rattle.controller.specs.declared.keys.Runs.{Runs}
+use Rattle.controller.specs.declared.state.Fields.{Fields}
 use Rattle.controller.specs.declared.state.State.{State}
 use Rattle.controller.specs.declared.tally.Lists.{Lists}
 
@@ -45,7 +47,7 @@ list-sound (some c) allowed =
     let up = rising-gives (c .numbers) (writable-gives c (allowed c refl) .rise) in
     record { short = writable-count c (allowed c refl); rises = up .0; positive = up .1 }
 
-pub list-at-sound : (v : View) (es : List Entry) → Sound v → (j : ℕ) → SoundList (listAt v es j)
+list-at-sound : (v : View) (es : List Entry) → Sound v → (j : ℕ) → SoundList (listAt v es j)
 list-at-sound v es h j = list-sound (received v es (getD (heardAfter v es) j 0)) (received-allowed v es h (getD (heardAfter v es) j 0))
 
 -- a bound on the places is one on the numbers, and on those of the first places
@@ -60,19 +62,80 @@ below-take (suc n) [] small i = small i
 below-take (suc n) (y ∷ l) small zero = small 0
 below-take (suc n) (y ∷ l) small (suc i) = below-take n l (λ j. small (suc j)) i
 
+-- ---- the lists by the fields and the echoes alone
+
+-- the list received under a number
+pub under-list : (f : Fields) (h c e b : List ℕ) (x i : ℕ) → listUnder f e b x i ≡ listIn (contentUnder (stateOf f h c e) b x i)
+unfolding frameOf
+under-list f h c e b x i = pick (eqb x (f .own))
+  where
+    pick : (t : Bool)
+        → cond t (cond (ltb 0 (maxCount (kindOf (f .round)))) (listed (record { len = f .echoes; at = e })) []) (listIn (readIn (f .round) (bytesAt b (place b i))))
+        ≡ listIn (cond t (some (frameOf (view (stateOf f h c e)))) (readIn (f .round) (bytesAt b (place b i))))
+    pick true = refl
+    pick false = refl
+
+-- the echoes of a sound state have their 64 places
+pub echoes-sized : (s : State) → sound s ≡ true → (s .echoes .len ≤ maxNumbers) × (length (s .echoes .at) ≡ maxNumbers)
+echoes-sized s test =
+    let l = listed (s .echoes) in
+    let short : length l ≤ maxNumbers = sound-gives s test .echoes .short in
+    let size : length ((stored l) .at) ≡ length l + (maxNumbers - length l) = simp (length-append, length-replicate) in
+    (omega (arith, ap (λ (t : State). t .echoes .len) (sound-stored s test)), omega (arith, ap (λ (t : State). length (t .echoes .at)) (sound-stored s test)))
+
+-- ---- how many numbers the lists have
+
+pub all-next : (v : View) (es : List Entry) (l : List ℕ) (j : ℕ) → j < length l
+    → length (allLists v es (drop j l)) ≡ length (listIn (received v es (getD l j 0))) + length (allLists v es (drop (j + 1) l))
+all-next v es l j h =
+    rw (add-one, drop-cons l j 0 h) (length-append (listIn (received v es (getD l j 0))) (allLists v es (drop (suc j) l)))
+
+all-later : (v : View) (es : List Entry) (k : ℕ) (l : List ℕ) → length (allLists v es (drop k l)) ≤ length (allLists v es l)
+all-later v es zero l = omega arith
+all-later v es (suc k) [] = omega arith
+all-later v es (suc k) (x ∷ l) = omega (arith, all-later v es k l, length-append (listIn (received v es x)) (allLists v es l))
+
+-- one of the c lists from place j on, and those behind them
+all-run : (v : View) (es : List Entry) (l : List ℕ) (j c : ℕ) → 0 < c → j + c ≤ length l
+    → length (listIn (received v es (getD l j 0))) + length (allLists v es (drop (j + c) l)) ≤ length (allLists v es (drop j l))
+all-run v es l j c pos h =
+    let e : j + 1 + (c - 1) ≡ j + c = omega arith in
+    let later : length (allLists v es (drop (j + c) l)) ≤ length (allLists v es (drop (j + 1) l)) =
+    rw (← e, ← drop-drop (c - 1) (j + 1) l) (all-later v es (c - 1) (drop (j + 1) l)) in
+    omega (arith, all-next v es l j (omega arith))
+
 -- ---- the lists put in, one by one
 
 -- the lists of the first j heard are in, as n runs
 pub record Filling (v : View) (es : List Entry) (keys at : List ℕ) (end n j : ℕ) : Type 0 where
   pub few : n ≤ j
-  pub place : end ≤ maxNumbers * n
+  pub place : end + length (allLists v es (drop j (heardAfter v es))) ≤ length (allLists v es (heardAfter v es))
   pub size : length at ≡ maxNumbers
   pub cut : Cut (take n at) (take end keys)
   pub counts : (x : ℕ) → counted x (take end keys) + countIf (λ (y : ℕ). mem x (listIn (received v es y))) (drop j (heardAfter v es)) ≡ tally v es x
 
-pub filling-start : (v : View) (es : List Entry) (keys : List ℕ) → Filling v es keys (replicate maxNumbers 0) 0 0 0
+pub filling-start : (v : View) (es : List Entry) (keys at : List ℕ) → length at ≡ maxNumbers → Filling v es keys at 0 0 0
 unfolding tally
-filling-start v es keys = record { few = omega arith; place = omega arith; size = refl; cut = refl; counts = λ x. omega arith }
+filling-start v es keys at size = record { few = omega arith; place = omega arith; size = size; cut = refl; counts = λ x. omega arith }
+
+-- the candidates have no part in it
+all-else : (f : Fields) (h c d e : List ℕ) (es : List Entry) (l : List ℕ) → allLists (view (stateOf f h c e)) es l ≡ allLists (view (stateOf f h d e)) es l
+unfolding received frameOf
+all-else f h c d e es [] = refl
+all-else f h c d e es (x ∷ l) = ap (λ (r : List ℕ). listIn (received (view (stateOf f h d e)) es x) ++ r) (all-else f h c d e es l)
+
+pub filling-else : (f : Fields) (h c d e : List ℕ) (es : List Entry) {keys at : List ℕ} {end n j : ℕ}
+    → Filling (view (stateOf f h c e)) es keys at end n j → Filling (view (stateOf f h d e)) es keys at end n j
+unfolding tally heardAfter received frameOf
+filling-else f h c d e es {j = j} g =
+    let hs = heardAfter (view (stateOf f h d e)) es in
+    record {
+      few = g .few;
+      place = rw (← all-else f h c d e es (drop j hs), ← all-else f h c d e es hs) (g .place);
+      size = g .size;
+      cut = g .cut;
+      counts = g .counts;
+    }
 
 -- the c lists from place j on are equal
 module _ (v : View) (es : List Entry) (keys at : List ℕ) (end n j c : ℕ) (f : List ℕ) (r : ℕ)
@@ -95,7 +158,7 @@ module _ (v : View) (es : List Entry) (keys at : List ℕ) (end n j c : ℕ) (f 
         let rises : RisingKeys (keysOf c l) = keys-rise c low l (sound .rises) (below-in l (puts .small)) in
         record {
           few = omega (arith, g .few);
-          place = omega (arith, puts .place, g .place, sound .short);
+          place = omega (arith, puts .place, g .place, all-run v es (heardAfter v es) j c some inside);
           size = simp length-set (g .size);
           cut =
               rw (add-one, take-suc-set at n (r - end) (omega (arith, g .size, g .few)), puts .kept, used)
@@ -113,8 +176,9 @@ tally-few : (v : View) (es : List Entry) (x : ℕ) → tally v es x ≤ length (
 unfolding tally
 tally-few v es x = count-length (λ (y : ℕ). mem x (listIn (received v es y))) (heardAfter v es)
 
-pub filling-end : (s : State) (b keys at : List ℕ) (end n j : ℕ) → j ≡ length (heardAfter (view s) (entries b)) → j ≤ maxNumbers → maxNumbers * j < length keys
-    → Filling (view s) (entries b) keys at end n j → Tallies s b keys (record { len = n; end = end; at = at })
+pub filling-end : (s : State) (b keys at : List ℕ) (end n j : ℕ) → j ≡ length (heardAfter (view s) (entries b)) → j ≤ maxNumbers
+    → length (allLists (view s) (entries b) (heardAfter (view s) (entries b))) < length keys
+    → Filling (view s) (entries b) keys at end n j → Tallies s b keys (record { len = n; end = end }) at
 filling-end s b keys at end n j size most room g =
     let v = view s in
     let es = entries b in
@@ -124,12 +188,17 @@ filling-end s b keys at end n j size most room g =
       keyed =
           record {
             few = omega (arith, g .few);
-            inside = omega (arith, g .place, g .few);
+            inside = omega (arith, g .place);
             cut = g .cut;
             slim = λ x. omega (arith, counts x, tally-few v es x);
           };
       counts = counts;
     }
+
+pub tallies-else : (f : Fields) (h c d e b : List ℕ) {keys : List ℕ} {r : Runs} {at : List ℕ}
+    → Tallies (stateOf f h c e) b keys r at → Tallies (stateOf f h d e) b keys r at
+unfolding tally heardAfter received frameOf
+tallies-else f h c d e b t = record { keyed = t .keyed; counts = t .counts }
 
 -- ---- the lists that the keys give
 

@@ -1,90 +1,114 @@
 -- `controller::keys::halve` meets its contract: the runs gone through are merged, the others are left, and together they count as all did.
-use Prim.Native.Nat.{_+_, _-_}
+use Prim.Native.Nat.{_+_, _-_, _<_}
 use mathlib.Core.Path.{_≡_, refl}
 use native.Mathlib.Omega.{arith}
 use borrow.Author.Needs.{needs}
 use denote.Ref.{now}
 use lib.ListN.{length}
 use Rattle.wire.specs.Limits.{maxNumbers}
+use Rattle.controller.specs.Keys.{Keyed}
 use Rattle.controller.specs.Laws.Merge.{Halving, pair-runs, halving-start, halving-pair, halving-mergeable, halving-more, halving-end}
 use Rattle.controller.proofs.keys.halve.Statement.{statement}
 use Rattle.controller.proofs.keys.halve.Tie as tie
 
 abbrev Inv-loop : tie.InvT-loop
-Inv-loop src runs dst₀ lens at₀ from₀ to₀ i₀ j₀ dst at from to i j = Halving src lens (runs .len) (runs .end) dst at from to i j × (length dst ≡ length dst₀)
+Inv-loop src lens runs dst₀ sizes out₀ from₀ to₀ i₀ j₀ dst out from to i j =
+    Halving src lens (runs .len) (runs .end) dst out from to i j × (length dst ≡ length dst₀)
 
 abbrev μ-loop : tie.MeasureT-loop
-μ-loop src runs dst₀ lens at₀ from₀ to₀ i₀ j₀ dst at from to i j = runs .len + 1 - j
+μ-loop src lens runs dst₀ sizes out₀ from₀ to₀ i₀ j₀ dst out from to i j = runs .len + 1 - j
+
+-- the call, and a turn
+abbrev outside : tie.At-loop Inv-loop μ-loop → tie.Start Inv-loop μ-loop
+outside c = c .before .before .before .before .before
+
+abbrev turn : tie.Then1 Inv-loop μ-loop → tie.At-loop Inv-loop μ-loop
+turn c = c .before .before
+
+keyed : (c : tie.At-loop Inv-loop μ-loop) → let a = outside c .args in Keyed (now (a .src)) (a .runs) (now (a .lens))
+keyed c = outside c .pre .0
+
+size : (c : tie.At-loop Inv-loop μ-loop) → length (now (outside c .args .lens)) ≡ maxNumbers
+size c = search needs
 
 loop-holds : tie.Need-loop-holds Inv-loop μ-loop
 loop-holds c =
-    let a = c .before .before .before .args in
-    (halving-start (now (a .src)) (a .runs) (now (a .dst)) (c .before .before .before .pre .0) (c .before .before .before .pre .1), refl)
+    let start = c .before .before .before .before in
+    let a = start .args in
+    let out : length (now (a .halves)) ≡ maxNumbers = search needs in
+    (halving-start (now (a .src)) (a .runs) (now (a .lens)) (now (a .dst)) (now (a .halves)) (start .pre .0) (start .pre .1) out, refl)
 
 mul-b : tie.Need-mul-b Inv-loop μ-loop
-mul-b c = search needs
+mul-b c = let k = keyed (turn c) in omega (arith, k .few, c .if1 .taken)
 
-array-read-b : tie.Need-array-read-b Inv-loop μ-loop
-array-read-b c = search needs
+shared-slice-read-b : tie.Need-shared-slice-read-b Inv-loop μ-loop
+shared-slice-read-b c = omega (arith, keyed (turn (c .before)) .few, c .before .if1 .taken, size (turn (c .before)))
 
 add-b : tie.Need-add-b Inv-loop μ-loop
 add-b c =
-    let v = c .before .before .loop in
-    let a = c .before .before .before .before .before .before .args in
-    let k = c .before .before .before .before .before .before .pre .0 in
-    let size : length (a .runs .at) ≡ maxNumbers = search needs in
-    let p = pair-runs (now (a .src)) (a .runs .at) (a .runs .len) (a .runs .end) (v .j) (v .from) (omega (arith, k .few)) (omega (arith, k .inside)) (v .inv .0 .low) (c .if1 .taken) (v .inv .0 .left) in
+    let v = turn (c .before) .loop in
+    let a = outside (turn (c .before)) .args in
+    let k = keyed (turn (c .before)) in
+    let p = pair-runs (now (a .src)) (now (a .lens)) (a .runs .len) (a .runs .end) (v .j) (v .from) (omega (arith, k .few, size (turn (c .before)))) (omega (arith, k .inside)) (v .inv .0 .low) (c .before .if1 .taken) (v .inv .0 .left) in
     omega (arith, p .first, k .inside)
 
 add-length-at : tie.Need-add-length-at Inv-loop μ-loop
-add-length-at c = search needs
+add-length-at c = omega (arith, keyed (turn (c .before)) .few, c .before .if1 .taken)
 
 length-at-requires : tie.Need-length-at-requires Inv-loop μ-loop
-length-at-requires c κs = search needs
+length-at-requires c κs = keyed (turn (c .before)) .few
 
 add-e : tie.Need-add-e Inv-loop μ-loop
 add-e c =
-    let v = c .before .before .before .before .loop in
-    let a = c .before .before .before .before .before .before .before .before .args in
-    let k = c .before .before .before .before .before .before .before .before .pre .0 in
-    let size : length (a .runs .at) ≡ maxNumbers = search needs in
-    let p = halving-pair (now (a .src)) (a .runs .at) (a .runs .len) (a .runs .end) (v .dst) (v .at) (v .from) (v .to) (v .i) (v .j) (k .few) size (k .inside) (k .slim) (v .inv .0) (c .before .before .if1 .taken) _ _ refl refl in
+    let in-turn = c .before .before in
+    let v = turn in-turn .loop in
+    let a = outside (turn in-turn) .args in
+    let k = keyed (turn in-turn) in
+    let p = halving-pair (now (a .src)) (now (a .lens)) (a .runs .len) (a .runs .end) (v .dst) (v .out) (v .from) (v .to) (v .i) (v .j) (k .few) (size (turn in-turn)) (k .inside) (k .slim) (v .inv .0) (in-turn .if1 .taken) _ _ refl refl in
     omega (arith, c .length-at .ensures, p .second, k .inside)
 
 merge-requires : tie.Need-merge-requires Inv-loop μ-loop
 merge-requires c κs =
-    let v = c .before .before .before .before .before .loop in
-    let a = c .before .before .before .before .before .before .before .before .before .args in
-    let k = c .before .before .before .before .before .before .before .before .before .pre .0 in
-    let size : length (a .runs .at) ≡ maxNumbers = search needs in
-    halving-mergeable (now (a .src)) (a .runs .at) (a .runs .len) (a .runs .end) (v .dst) (v .at) (v .from) (v .to) (v .i) (v .j) (k .few) size (k .inside) (k .slim) (v .inv .0) (c .before .before .before .if1 .taken) _ _ refl (rw (c .before .length-at .ensures))
+    let in-turn = c .before .before .before in
+    let v = turn in-turn .loop in
+    let a = outside (turn in-turn) .args in
+    let k = keyed (turn in-turn) in
+    halving-mergeable (now (a .src)) (now (a .lens)) (a .runs .len) (a .runs .end) (v .dst) (v .out) (v .from) (v .to) (v .i) (v .j) (k .few) (size (turn in-turn)) (k .inside) (k .slim) (v .inv .0) (in-turn .if1 .taken) _ _ refl (rw (c .before .length-at .ensures))
 
-sub-at : tie.Need-sub-at Inv-loop μ-loop
-sub-at c = omega (arith, c .before .before .merge .ensures .later)
+sub-out : tie.Need-sub-out Inv-loop μ-loop
+sub-out c = omega (arith, c .before .before .merge .ensures .later)
 
-mul-at : tie.Need-mul-at Inv-loop μ-loop
-mul-at c = search needs
+-- the place of the merged run
+place-fits : (c : tie.After-slice-known2 Inv-loop μ-loop) → turn (c .before .before .before .before .before .before) .loop .i < maxNumbers
+place-fits c =
+    let in-turn = c .before .before .before .before .before .before in
+    omega (arith, turn in-turn .loop .inv .0 .pairs, in-turn .if1 .taken, keyed (turn in-turn) .few)
 
-array-write-at : tie.Need-array-write-at Inv-loop μ-loop
-array-write-at c = search needs
+mul-out : tie.Need-mul-out Inv-loop μ-loop
+mul-out c = omega (arith, place-fits c)
+
+slice-write-out : tie.Need-slice-write-out Inv-loop μ-loop
+slice-write-out c = omega (arith, place-fits c, turn (c .before .before .before .before .before .before) .loop .inv .0 .size)
 
 add-i : tie.Need-add-i Inv-loop μ-loop
-add-i c = search needs
+add-i c = omega (arith, place-fits c)
 
 add-j : tie.Need-add-j Inv-loop μ-loop
-add-j c = search needs
+add-j c =
+    let in-turn = c .before .before .before .before .before .before in
+    omega (arith, in-turn .if1 .taken, keyed (turn in-turn) .few)
 
 loop-less : tie.Need-loop-less Inv-loop μ-loop
-loop-less c = search needs
+loop-less c = let in-turn = c .before .before .before .before .before .before in omega (arith, in-turn .if1 .taken)
 
 loop-again : tie.Need-loop-again Inv-loop μ-loop
 loop-again c =
-    let v = c .before .before .before .before .before .before .before .before .loop in
-    let a = c .before .before .before .before .before .before .before .before .before .before .before .before .args in
-    let k = c .before .before .before .before .before .before .before .before .before .before .before .before .pre .0 in
-    let size : length (a .runs .at) ≡ maxNumbers = search needs in
+    let in-turn = c .before .before .before .before .before .before in
+    let v = turn in-turn .loop in
+    let a = outside (turn in-turn) .args in
+    let k = keyed (turn in-turn) in
     let m = c .before .before .merge in
-    (halving-more (now (a .src)) (a .runs .at) (a .runs .len) (a .runs .end) (v .dst) (v .at) (v .from) (v .to) (v .i) (v .j) (k .few) size (k .inside) (k .slim) (v .inv .0) (c .before .before .before .before .before .before .if1 .taken) _ _ refl (rw (c .before .before .before .before .length-at .ensures)) _ (m .result) (search needs) (m .ensures), search needs)
+    (halving-more (now (a .src)) (now (a .lens)) (a .runs .len) (a .runs .end) (v .dst) (v .out) (v .from) (v .to) (v .i) (v .j) (k .few) (size (turn in-turn)) (k .inside) (k .slim) (v .inv .0) (in-turn .if1 .taken) _ _ refl (rw (c .before .before .before .before .length-at .ensures)) _ (m .result) (search needs) (m .ensures), search needs)
 
 same-length : tie.Need-same-length Inv-loop μ-loop
 same-length c = search needs
@@ -92,10 +116,8 @@ same-length c = search needs
 returns : tie.Need-returns Inv-loop μ-loop
 returns c =
     let v = c .before .before .loop in
-    let a = c .before .before .before .before .before .before .args in
-    let k = c .before .before .before .before .before .before .pre .0 in
-    let size : length (a .runs .at) ≡ maxNumbers = search needs in
-    halving-end (now (a .src)) (a .runs) (v .dst) (v .at) (v .from) (v .to) (v .i) (v .j) k (v .inv .0) (c .if1 .left)
+    let a = outside (c .before .before) .args in
+    halving-end (now (a .src)) (a .runs) (now (a .lens)) (v .dst) (v .out) (v .from) (v .to) (v .i) (v .j) (keyed (c .before .before)) (v .inv .0) (c .if1 .left)
 
 pub halve-spec : {M : Type 1} → statement M
 halve-spec =
@@ -105,15 +127,15 @@ halve-spec =
     μ-loop
     loop-holds
     mul-b
-    array-read-b
+    shared-slice-read-b
     add-b
     add-length-at
     length-at-requires
     add-e
     merge-requires
-    sub-at
-    mul-at
-    array-write-at
+    sub-out
+    mul-out
+    slice-write-out
     add-i
     add-j
     loop-less

@@ -10,32 +10,40 @@ use Rattle.controller.proofs.keys.merge_all.Statement.{statement}
 use Rattle.controller.proofs.keys.merge_all.Tie as tie
 
 abbrev Inv-loop : tie.InvT-loop
-Inv-loop a₀ b₀ r₀ len₀ a b r len =
-    (len ≡ r .len) × (length a ≡ length a₀) × (length b ≡ length b₀) × Keyed a r × ((x : ℕ) → counted x (take (r .end) a) ≡ counted x (take (r₀ .end) a₀))
+Inv-loop a₀ b₀ lens₀ halves₀ r₀ len₀ a b lens halves r len =
+    (len ≡ r .len) × (length a ≡ length a₀) × (length b ≡ length b₀) × Keyed a r lens × ((x : ℕ) → counted x (take (r .end) a) ≡ counted x (take (r₀ .end) a₀))
 
 abbrev μ-loop : tie.MeasureT-loop
-μ-loop a₀ b₀ r₀ len₀ a b r len = len
+μ-loop a₀ b₀ lens₀ halves₀ r₀ len₀ a b lens halves r len = len
+
+-- a turn, and the halving that is done when the second is asked for
+abbrev turn : tie.After-halves Inv-loop μ-loop → tie.In-loop Inv-loop μ-loop
+turn c = c .before .before .before .before
+
+abbrev halved : tie.After-halve-arg6 Inv-loop μ-loop → tie.After-halve Inv-loop μ-loop
+halved c = c .before .before .before .before .before .before
 
 loop-holds : tie.Need-loop-holds Inv-loop μ-loop
 loop-holds c = (refl, refl, refl, c .before .before .pre .0, λ x. refl)
 
 halve-requires : tie.Need-halve-requires Inv-loop μ-loop
-halve-requires c κs = (c .before .before .before .loop .inv .3, search needs)
+halve-requires c κs = (turn c .before .loop .inv .3, search needs)
 
 halve-requires-2 : tie.Need-halve-requires-2 Inv-loop μ-loop
-halve-requires-2 c κs = (c .before .before .before .before .halve .ensures .keyed, search needs)
+halve-requires-2 c κs = (halved c .halve .ensures .keyed, search needs)
 
 loop-less : tie.Need-loop-less Inv-loop μ-loop
 loop-less c =
-    let v = c .before .before .before .before .before .before .before .before .before .before .before .loop in
-    omega (arith, c .before .before .before .before .before .before .before .before .before .before .loop-test .taken, v .inv .0, c .before .before .before .before .before .before .before .halve .ensures .half, c .before .before .halve2 .ensures .half)
+    let first = halved (c .before .before .before) in
+    let in-turn = turn (first .before) in
+    omega (arith, in-turn .loop-test .taken, in-turn .before .loop .inv .0, first .halve .ensures .half, c .before .before .halve2 .ensures .half)
 
 loop-again : tie.Need-loop-again Inv-loop μ-loop
 loop-again c =
-    let v = c .before .before .before .before .before .before .before .before .before .before .before .loop in
-    let one = c .before .before .before .before .before .before .before .halve .ensures in
+    let first = halved (c .before .before .before) in
+    let v = turn (first .before) .before .loop in
     let two = c .before .before .halve2 .ensures in
-    (refl, search needs, search needs, two .keyed, λ x. two .counts x ∙ one .counts x ∙ v .inv .4 x)
+    (refl, search needs, search needs, two .keyed, λ x. two .counts x ∙ first .halve .ensures .counts x ∙ v .inv .4 x)
 
 same-length : tie.Need-same-length Inv-loop μ-loop
 same-length c = search needs
@@ -49,7 +57,7 @@ returns c =
     let k = v .inv .3 in
     record {
       inside = k .inside;
-      rises = cut-one (take (v .r .len) (v .r .at)) (take (v .r .end) (v .a)) (omega (arith, c .loop-test .left, v .inv .0, length-take (v .r .len) (v .r .at))) (k .cut);
+      rises = cut-one (take (v .r .len) (v .lens)) (take (v .r .end) (v .a)) (omega (arith, c .loop-test .left, v .inv .0, length-take (v .r .len) (v .lens))) (k .cut);
       counts = v .inv .4;
     }
 

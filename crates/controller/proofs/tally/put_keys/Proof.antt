@@ -1,16 +1,15 @@
 -- `controller::tally::put_keys` meets its contract: what is written so far and the keys of what is left are the whole.
-use Prim.Native.Nat.{ℕ, _+_, _-_, _≤_, _<_}
+use Prim.Native.Nat.{_+_, _-_, _≤_}
 use mathlib.Core.List.{_∷_, _++_, append-nil}
 use mathlib.Core.Path.{_≡_, refl, sym, _∙_}
 use native.Mathlib.Numerals.{add-one}
 use native.Mathlib.Omega.{arith}
 use borrow.Author.Needs.{needs}
-use mir.Syntax.{w32}
-use mir.Val.{Fits}
-use lib.ListN.{length, getD, take, drop}
-use lib.Seq.{slice-cons, length-take-le}
+use denote.Ref.{now}
+use lib.ListN.{length, getD, take}
+use lib.Seq.{slice, slice-cons, length-take-le}
 use Rattle.wire.specs.Limits.{maxNumbers}
-use Rattle.wire.specs.Numbers.{listed}
+use Rattle.wire.specs.Words.{Below}
 use Rattle.controller.specs.Keys.{keysOf}
 use Rattle.controller.specs.Laws.Merge.{one-more, slice-none}
 use Rattle.controller.specs.Laws.Tally.{below-take}
@@ -18,32 +17,40 @@ use Rattle.controller.proofs.tally.put_keys.Statement.{statement}
 use Rattle.controller.proofs.tally.put_keys.Tie as tie
 
 abbrev Inv-loop : tie.InvT-loop
-Inv-loop count keys₀ to list len k₀ i₀ keys k i =
-    (i ≤ len) × (k ≡ to + i) × (length keys ≡ length keys₀) × (take k keys ++ keysOf count (drop i (listed list)) ≡ take to keys₀ ++ keysOf count (listed list))
+Inv-loop list len count keys₀ to numbers k₀ i₀ keys k i =
+    (i ≤ len)
+    × (k ≡ to + i)
+    × (length keys ≡ length keys₀)
+    × (take k keys ++ keysOf count (slice i len list) ≡ take to keys₀ ++ keysOf count (take len list))
+    × Below 4294967296 (take i list)
 
 abbrev μ-loop : tie.MeasureT-loop
-μ-loop count keys₀ to list len k₀ i₀ keys k i = len - i
+μ-loop list len count keys₀ to numbers k₀ i₀ keys k i = len - i
+
+size : (c : tie.After-numbers Inv-loop μ-loop) → length (now (c .before .args .list)) ≡ maxNumbers
+size c = search needs
+
+-- inside a turn it is known that the numbers fit
+small : (c : tie.After-shared-slice-known Inv-loop μ-loop) → Below 4294967296 (now (c .before .before .before .before .args .list))
+small c i = let h = c .shared-slice-known .given i in omega arith
 
 loop-holds : tie.Need-loop-holds Inv-loop μ-loop
-loop-holds c = (search needs, search needs, refl, refl)
+loop-holds c = (omega arith, omega arith, refl, refl, λ i. omega arith)
 
 mul-keys : tie.Need-mul-keys Inv-loop μ-loop
 mul-keys c = search needs
 
-element-copy-out-keys : tie.Need-element-copy-out-keys Inv-loop μ-loop
-element-copy-out-keys c = search needs
+shared-slice-read-keys : tie.Need-shared-slice-read-keys Inv-loop μ-loop
+shared-slice-read-keys c = omega (arith, size (c .before .before .before), c .before .loop-test .taken, c .before .before .before .before .pre .0)
 
 cast-keys : tie.Need-cast-keys Inv-loop μ-loop
-cast-keys c = search needs
-
-small-at : (c : tie.After-keys Inv-loop μ-loop) (i : ℕ) → getD (c .before .before .before .args .t1 .at) i 0 < 4294967296
-small-at c i = let h : Fits w32 (getD (c .before .before .before .args .t1 .at) i 0) = search needs in omega arith
+cast-keys c = let h = small c (c .before .before .loop .i) in record { fits = omega arith }
 
 mul-keys-2 : tie.Need-mul-keys-2 Inv-loop μ-loop
-mul-keys-2 c = let h = small-at c (c .before .before .loop .i) in record { fits = omega arith }
+mul-keys-2 c = let h = small c (c .before .before .loop .i) in record { fits = omega arith }
 
 add-keys : tie.Need-add-keys Inv-loop μ-loop
-add-keys c = let h = small-at c (c .before .before .loop .i) in record { fits = omega arith }
+add-keys c = let h = small c (c .before .before .loop .i) in record { fits = omega arith }
 
 mul-keys-3 : tie.Need-mul-keys-3 Inv-loop μ-loop
 mul-keys-3 c = search needs
@@ -63,11 +70,10 @@ loop-less c = search needs
 loop-again : tie.Need-loop-again Inv-loop μ-loop
 loop-again c =
     let v = c .before .before .loop in
-    let n = c .before .before .before .args .t1 in
-    let size : length (n .at) ≡ maxNumbers = search needs in
-    let e : drop (v .i) (listed n) ≡ getD (n .at) (v .i) 0 ∷ drop (v .i + 1) (listed n) =
-    rw add-one (slice-cons (v .i) (n .len) (n .at) 0 (omega arith) (omega arith)) in
-    (search needs, search needs, search needs, one-more (v .keys) _ _ (v .k) _ (omega arith) (rw e at (v .inv .3)))
+    let a = c .before .before .before .before .args in
+    let e : slice (v .i) (a .len) (now (a .list)) ≡ getD (now (a .list)) (v .i) 0 ∷ slice (v .i + 1) (a .len) (now (a .list)) =
+    rw add-one (slice-cons (v .i) (a .len) (now (a .list)) 0 (omega arith) (omega (arith, size (c .before .before .before)))) in
+    (search needs, search needs, search needs, one-more (v .keys) _ _ (v .k) _ (omega arith) (rw e at (v .inv .3)), below-take (v .i + 1) (now (a .list)) (small c))
 
 same-length : tie.Need-same-length Inv-loop μ-loop
 same-length c = search needs
@@ -75,11 +81,12 @@ same-length c = search needs
 returns : tie.Need-returns Inv-loop μ-loop
 returns c =
     let v = c .before .loop in
-    let n = c .before .before .args .t1 in
+    let a = c .before .before .before .args in
+    let e : v .i ≡ a .len = omega (arith, v .inv .0, c .loop-test .left) in
     record {
-      place = let size : length (n .at) ≡ maxNumbers = search needs in omega (arith, length-take-le (n .len) (n .at) (omega arith));
-      kept = sym (append-nil (take (v .k) (v .keys))) ∙ (rw (slice-none (v .i) (n .len) (n .at) (c .loop-test .left)) at (v .inv .3));
-      small = below-take (n .len) (n .at) (λ i. let fits : Fits w32 (getD (n .at) i 0) = search needs in omega arith);
+      place = omega (arith, length-take-le (a .len) (now (a .list)) (omega (arith, size (c .before .before))));
+      kept = sym (append-nil (take (v .k) (v .keys))) ∙ (rw (slice-none (v .i) (a .len) (now (a .list)) (c .loop-test .left)) at (v .inv .3));
+      small = rw e at (v .inv .4);
     }
 
 pub put-keys-spec : {M : Type 1} → statement M
@@ -90,7 +97,7 @@ put-keys-spec =
     μ-loop
     loop-holds
     mul-keys
-    element-copy-out-keys
+    shared-slice-read-keys
     cast-keys
     mul-keys-2
     add-keys
