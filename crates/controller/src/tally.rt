@@ -329,8 +329,8 @@ fn copy_reaching(keys: &[u64], end: usize, bar: u64, to: &mut [u64]) -> usize
 }
 
 // Makes a list of the numbers of the first `end` keys.
-fn put_numbers(keys: &[u64], end: usize, list: &mut [u32; MAX_NUMBERS])
-    requires { ⌜ (end ≤ maxNumbers) × (end ≤ length (now keys)) × RisingKeys (take end (now keys)) ⌝ }
+fn put_numbers(keys: &[u64], end: usize, list: &mut [u32])
+    requires { ⌜ (end ≤ maxNumbers) × (end ≤ length (now keys)) × RisingKeys (take end (now keys)) × (length (now list) ≡ maxNumbers) ⌝ }
     ensures { λ r. ⌜ now (list .exit) ≡ (stored (numbersIn (take end (now (keys .entry))))) .at ⌝ }
 {
     let mut i = 0;

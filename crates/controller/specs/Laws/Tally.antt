@@ -2,14 +2,15 @@
 use Prim.Native.Nat.{ℕ, zero, suc, _+_, _*_, _-_, _/_, _%_, _≤_, _<_}
 use mathlib.Core.Bool.{true, not}
 use mathlib.Core.List.{List, [], _∷_, List·Memᴰ·head, List·Memᴰ·tail, List·Memᴰ·not-nil, Memᴰ·cast}
-use mathlib.Core.Logic.{_⊎_, inl, inr}
+use mathlib.Core.Logic.{_⊎_, inl, inr, _≢_}
 use mathlib.Core.Option.{Option, some, none}
 use mathlib.Core.Path.{_≡_, refl, sym, ap, _∙_}
+use native.Mathlib.Decide.{decLt}
 use native.Mathlib.Numerals.{add-one}
 use native.Mathlib.Omega.{arith}
 use borrow.Author.Tests.{leb-true, le-leb, not-true}
 use lib.Dec.{leb}
-use lib.ListN.{length, getD, set, take, drop, replicate, length-set, drop-of-length-le}
+use lib.ListN.{length, getD, set, take, drop, replicate, length-append, length-set, drop-of-length-le}
 use lib.Seq.{take-suc-set}
 use Rattle.wire.specs.Frame.{Content, writable}
 use Rattle.wire.specs.Laws.Frame.{writable-gives, writable-count}
@@ -18,19 +19,21 @@ use Rattle.wire.specs.Numbers.{stored, listed}
 use Rattle.wire.specs.Tray.{Entry, entries}
 use Rattle.wire.specs.Words.{Below}
 use Rattle.controller.specs.Lists.{In, mem, countIf}
-use Rattle.controller.specs.Keys.{counted, RisingKeys, merged, Slim, Cut, OneRun, keysOf, numbersIn, reaching, newTo, PutsKeys}
+use Rattle.controller.specs.Keys.{counted, RisingKeys, merged, Slim, Cut, OneRun, keysOf, numbersIn, reaching, newTo, joinedBy, PutsKeys}
 use Rattle.controller.specs.State.{View, view, sound, soundList}
-use Rattle.controller.specs.Received.{heardAfter, received, listIn}
-use Rattle.controller.specs.Rotation.{tally, echoed, candidatesAfter}
+use Rattle.controller.specs.Fields.{stateOf}
+use Rattle.controller.specs.Received.{frameOf, heardAfter, received, listIn}
+use Rattle.controller.specs.Rotation.{tally, allLists, echoed, candidatesAfter}
 use Rattle.controller.specs.Storage.{Tallies, echoesIn, candidatesIn, SortsOut, GrowsLists}
-use Rattle.controller.specs.Laws.Keys.{keys-length, keys-every, keys-rise, keys-counted, numbers-in, numbers-from, numbers-rise, key-count, counted-some, keep-keys, keep-counted}
-use Rattle.controller.specs.Laws.Merge.{counted-append, merged-counts, merged-every, merged-rises, cut-more}
+use Rattle.controller.specs.Laws.Keys.{keys-length, keys-every, keys-rise, keys-counted, numbers-length, numbers-in, numbers-from, numbers-rise, key-count, counted-some, keep-keys, keep-counted}
+use Rattle.controller.specs.Laws.Merge.{merged-none, merged-all, merged-first, merged-second, counted-append, merged-counts, merged-every, merged-rises, cut-more}
 use Rattle.controller.specs.Laws.Lists.{true-or-false, in-mem, out-mem, mem-out, in-or-not, rising-gives, rising-same, count-length, count-run, keep-in}
 use Rattle.controller.specs.Laws.Thirds.{third-is, two-thirds-is}
 use Rattle.controller.specs.Laws.State.{SoundList, Sound, sound-list-test, sound-gives, sound-stored}
 use Rattle.controller.specs.Laws.Received.{heard-some, received-allowed}
 use Rattle.controller.specs.Laws.Rotation.{echoed-in, echoed-rising, candidates-in, candidates-rising}
 use Rattle.controller.specs.declared.keys.Runs.{Runs}
+use Rattle.controller.specs.declared.state.Fields.{Fields}
 use Rattle.controller.specs.declared.state.State.{State}
 use Rattle.controller.specs.declared.tally.Lists.{Lists}
 
@@ -270,18 +273,77 @@ module _ (v : View) (es : List Entry) (l : List ℕ)
     unfolding new joining all
     sorted-candidates = all-candidates
 
+-- the tally does not depend on the candidates
+pub tally-alone : (f : Fields) (h c e : List ℕ) (es : List Entry) (x : ℕ) → tally (view (stateOf f h [] e)) es x ≡ tally (view (stateOf f h c e)) es x
+unfolding tally received frameOf heardAfter
+tally-alone f h c e es x = refl
+
 -- what is sorted out of the one run is what the rules give
-pub sorted-grows : (s : State) (b : List ℕ) {k f : List ℕ} {runs : Runs} {end n : ℕ} {r : Lists} → sound s ≡ true
+pub sorted-grows : (s : State) (b : List ℕ) {k f : List ℕ} {runs : Runs} {end n : ℕ} {r : Lists} {c e : List ℕ} → sound s ≡ true
     → n ≡ length (heardAfter (view s) (entries b)) → n ≤ maxNumbers → Below 4294967296 (s .candidates .at)
-    → Tallies s b k runs → OneRun k runs f end → SortsOut (take end f) (listed (s .candidates)) n r → GrowsLists s b r
+    → ((x : ℕ) → counted x (take (runs .end) k) ≡ tally (view s) (entries b) x) → OneRun k runs f end
+    → SortsOut (take end f) n (s .candidates) (s .echoes .at) r c e → GrowsLists s b r c e
 sorted-grows s b {k} {f} {runs} {end} {n} {r} test size few fit all one sorts =
     let h = sound-gives s test in
     let small = below-in (listed (s .candidates)) (below-take (s .candidates .len) (s .candidates .at) fit) in
-    let counts : (x : ℕ) → counted x (take end f) ≡ tally (view s) (entries b) x = λ x. one .counts x ∙ all .counts x in
+    let counts : (x : ℕ) → counted x (take end f) ≡ tally (view s) (entries b) x = λ x. one .counts x ∙ all x in
     let echoes = rw (← size) at (sorted-echoes (view s) (entries b) (take end f) h (omega arith) small (one .rises) counts) in
     let candidates = rw (← size) at (sorted-candidates (view s) (entries b) (take end f) h (omega arith) small (one .rises) counts) in
     record {
       fits = sorts .fits ∙ rw (echoes, candidates);
+      few = sorts .few;
       echoes = λ fits. sorts .echoes fits ∙ ap stored echoes;
       candidates = λ fits. sorts .candidates fits ∙ ap stored candidates;
+      kept = sorts .kept;
     }
+
+-- ---- how many there can be
+
+-- keys of other numbers
+abbrev Apart : List ℕ → List ℕ → Type 0
+Apart l m = (x y : ℕ) → In x l → In y m → x / 128 ≢ y / 128
+
+abbrev Adds : List ℕ → List ℕ → Type 0
+Adds l m = Apart l m → length (merged l m) ≡ length l + length m
+
+adds-from : (x : ℕ) (l : List ℕ) → ((m : List ℕ) → Adds l m) → (m : List ℕ) → Adds (x ∷ l) m
+adds-from x l shorter [] apart = rw (merged-all (x ∷ l)) (omega arith)
+adds-from x l shorter (y ∷ m) apart =
+    let d = apart x y (List·Memᴰ·head refl) (List·Memᴰ·head refl) in
+    elim (decLt x y) [
+      | yes h ↦ let rest = shorter (y ∷ m) (λ a b i j. apart a b (List·Memᴰ·tail i) j) in rw (merged-first x y l m d h) (omega arith)
+      | no h ↦ let rest = adds-from x l shorter m (λ a b i j. apart a b i (List·Memᴰ·tail j)) in rw (merged-second x y l m d (omega arith)) (omega arith)
+    ]
+
+merged-adds : (l m : List ℕ) → Adds l m
+merged-adds [] m apart = rw (merged-none m) (omega arith)
+merged-adds (x ∷ l) m apart = adds-from x l (merged-adds l) m apart
+
+-- numbers that are not in a list make it longer by just their count
+pub joined-length : (l c : List ℕ) → ((k : ℕ) → In k l → ¬ In (k / 128) c) → length (joinedBy l c) ≡ length l + length c
+joined-length l c out =
+    let apart : Apart l (keysOf 1 c) = λ x y i j. keys-every 1 (omega arith) (λ z. x / 128 ≢ z) c (λ z k e. out x i (Memᴰ·cast e k)) y j in
+    numbers-length (merged l (keysOf 1 c)) ∙ merged-adds l (keysOf 1 c) apart ∙ rw (keys-length 1 c)
+
+-- so it is with those that join the candidates c
+pub candidates-length : (c : List ℕ) (n : ℕ) (l : List ℕ) → length (candidatesIn c n l) ≡ length (reaching (2 * n) (newTo c (reaching n l))) + length c
+candidates-length c n l =
+    joined-length (reaching (2 * n) (newTo c (reaching n l))) c
+    (λ k i.
+    let a = keep-in (λ (y : ℕ). leb (2 * n) (3 * (y % 128))) (newTo c (reaching n l)) .0 i in
+    let b = keep-in (λ (y : ℕ). not (mem (y / 128) c)) (reaching n l) .0 (a .0) in
+    mem-out c (not-true (mem (k / 128) c) (b .1)))
+
+lists-few : (v : View) (es : List Entry) → Sound v → (l : List ℕ) → length (allLists v es l) ≤ maxNumbers * length l
+lists-few v es h [] = omega arith
+lists-few v es h (x ∷ l) =
+    let one = list-sound (received v es x) (received-allowed v es h x) in
+    omega (arith, one .short, lists-few v es h l, length-append (listIn (received v es x)) (allLists v es l))
+
+-- 64 lists of 64 numbers
+pub all-lists-few : (s : State) (b : List ℕ) → sound s ≡ true → length (heardAfter (view s) (entries b)) ≤ maxNumbers
+    → length (allLists (view s) (entries b) (heardAfter (view s) (entries b))) ≤ maxNumbers * maxNumbers
+all-lists-few s b test few = omega (arith, lists-few (view s) (entries b) (sound-gives s test) (heardAfter (view s) (entries b)))
+
+pub echoes-few : (s : State) → sound s ≡ true → s .echoes .len ≤ maxNumbers
+echoes-few s test = omega (arith, ap (λ (t : State). t .echoes .len) (sound-stored s test), sound-gives s test .echoes .short)
