@@ -104,6 +104,7 @@ put-numbers-requires c κs =
       few (now (a .a)) (now (a .b)) (a .end) (were (given p)) _ (p .put-keys .result) (given p .pre) (search needs) (p .put-keys .ensures) _ (m .merge .result) (m .merge .ensures),
       inside (now (a .a)) (now (a .b)) (a .end) (were (given p)) _ (p .put-keys .result) (given p .pre) (search needs) (p .put-keys .ensures) _ (m .merge .result) (m .merge .ensures) (search needs),
       rises (now (a .a)) (now (a .b)) (a .end) (were (given p)) _ (p .put-keys .result) (given p .pre) (search needs) (p .put-keys .ensures) _ (m .merge .result) (m .merge .ensures),
+      search needs,
     )
 
 same-length : tie.Need-same-length
