@@ -1,6 +1,6 @@
 -- `controller::tally::put_numbers` meets its contract: the numbers gone through stand in their places, then the places behind them are made 0.
 use Prim.Native.Nat.{ℕ, suc, _+_, _-_, _/_, _≤_, _<_}
-use mathlib.Core.List.{List, _∷_, _++_, [], append-nil}
+use mathlib.Core.List.{List, _∷_, _++_, append-nil}
 use mathlib.Core.Path.{_≡_, refl, sym, ap, _∙_}
 use native.Mathlib.Numerals.{add-one}
 use native.Mathlib.Omega.{arith}
