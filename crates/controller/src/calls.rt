@@ -6,7 +6,7 @@ ghost use Prim.Native.Nat.{ℕ, _≤_, _<_};
 ghost use lib.Dec.{ltb};
 ghost use lib.ListN.{length};
 ghost use Rattle.wire.specs.Frame.{maxCount};
-ghost use Rattle.wire.specs.Limits.{maxFrame, maxNumbers, lastRound};
+ghost use Rattle.wire.specs.Limits.{maxFrame, lastRound};
 ghost use Rattle.wire.specs.Tray.{entries};
 ghost use Rattle.controller.specs.Fields.{stateOf, answerOf};
 ghost use Rattle.controller.specs.State.{view, sound, zeroState, image, startView};

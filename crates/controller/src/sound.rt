@@ -1,6 +1,5 @@
 // The soundness of a state, document 01's "sound".
-ghost use mathlib.Core.Bool.{true, _&&_, not, cond};
-ghost use mathlib.Core.List.{[]};
+ghost use mathlib.Core.Bool.{true, _&&_, cond};
 ghost use mathlib.Core.Path.{_≡_};
 ghost use Prim.Native.Nat.{_≤_};
 ghost use lib.Dec.{leb, eqb};

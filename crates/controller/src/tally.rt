@@ -325,9 +325,9 @@ fn copy_reaching(keys: &[u64], end: usize, bar: u64, to: &mut [u64]) -> usize
     k
 }
 
-// Makes a list of the numbers of the first `end` keys.
-fn put_numbers(keys: &[u64], end: usize, list: &mut [u32; MAX_NUMBERS])
-    requires { ⌜ (end ≤ maxNumbers) × (end ≤ length (now keys)) × RisingKeys (take end (now keys)) ⌝ }
+// Makes a list of the numbers of the first `end` keys. It is lent as a slice: of a slice it is known how long it is, of a lent array it is not.
+fn put_numbers(keys: &[u64], end: usize, list: &mut [u32])
+    requires { ⌜ (end ≤ maxNumbers) × (end ≤ length (now keys)) × RisingKeys (take end (now keys)) × (length (now list) ≡ maxNumbers) ⌝ }
     ensures { λ r. ⌜ now (list .exit) ≡ (stored (numbersIn (take end (now (keys .entry))))) .at ⌝ }
 {
     let mut i = 0;
@@ -416,7 +416,15 @@ fn grow_in(
     let mut lens = [0; MAX_NUMBERS];
     let runs = fill(fields, heard, echoes, tray, firsts, a, &mut lens);
     let end = merge_all(a, b, &mut lens, runs);
-    sort_out(a, end, fields.heard, candidates, fields.candidates, echoes, b)
+    sort_out(
+        a,
+        end,
+        fields.heard,
+        candidates,
+        fields.candidates,
+        echoes,
+        b,
+    )
 }
 
 // How many numbers the frame of an entry can list; 0 where there is no such entry.
@@ -469,18 +477,54 @@ pub(crate) fn grow(
     if most < 72 {
         let mut a = [0u64; 72];
         let mut b = [0u64; 72];
-        grow_in(fields, heard, candidates, echoes, tray, firsts, &mut a, &mut b)
+        grow_in(
+            fields,
+            heard,
+            candidates,
+            echoes,
+            tray,
+            firsts,
+            &mut a,
+            &mut b,
+        )
     } else if most < 264 {
         let mut a = [0u64; 264];
         let mut b = [0u64; 264];
-        grow_in(fields, heard, candidates, echoes, tray, firsts, &mut a, &mut b)
+        grow_in(
+            fields,
+            heard,
+            candidates,
+            echoes,
+            tray,
+            firsts,
+            &mut a,
+            &mut b,
+        )
     } else if most < 1032 {
         let mut a = [0u64; 1032];
         let mut b = [0u64; 1032];
-        grow_in(fields, heard, candidates, echoes, tray, firsts, &mut a, &mut b)
+        grow_in(
+            fields,
+            heard,
+            candidates,
+            echoes,
+            tray,
+            firsts,
+            &mut a,
+            &mut b,
+        )
     } else {
         let mut a = [0u64; 4104];
         let mut b = [0u64; 4104];
-        grow_in(fields, heard, candidates, echoes, tray, firsts, &mut a, &mut b)
+        grow_in(
+            fields,
+            heard,
+            candidates,
+            echoes,
+            tray,
+            firsts,
+            &mut a,
+            &mut b,
+        )
     }
 }

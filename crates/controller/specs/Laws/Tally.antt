@@ -1,10 +1,11 @@
 -- Laws of the work on the tally: the received lists as keys count each number as `tally` does, and the lists that such keys give are the rules'.
 use Prim.Native.Nat.{ℕ, zero, suc, _+_, _*_, _-_, _/_, _%_, _≤_, _<_}
 use mathlib.Core.Bool.{Bool, true, false, not, cond}
-use mathlib.Core.List.{List, [], _∷_, _++_, List·Memᴰ·head, List·Memᴰ·tail, List·Memᴰ·not-nil, Memᴰ·cast}
-use mathlib.Core.Logic.{_⊎_, inl, inr}
+use mathlib.Core.List.{List, [], _∷_, _++_, List·Memᴰ·head, List·Memᴰ·tail, List·Memᴰ·not-nil, Memᴰ·cast, List·Memᴰ·cases-cons}
+use mathlib.Core.Logic.{_⊎_, inl, inr, _≢_}
 use mathlib.Core.Option.{Option, some, none}
 use mathlib.Core.Path.{_≡_, refl, sym, ap, _∙_}
+use native.Mathlib.Decide.{ℕ-discrete, decLt}
 use native.Mathlib.Numerals.{add-one}
 use native.Mathlib.Omega.{arith}
 use borrow.Author.Tests.{leb-true, le-leb, not-true}
@@ -17,15 +18,15 @@ use Rattle.wire.specs.Limits.{maxNumbers}
 use Rattle.wire.specs.Numbers.{stored, listed}
 use Rattle.wire.specs.Tray.{Entry, entries, place, bytesAt}
 use Rattle.wire.specs.Words.{Below}
-use Rattle.controller.specs.Lists.{In, mem, countIf}
-use Rattle.controller.specs.Keys.{counted, RisingKeys, merged, Slim, Cut, OneRun, keysOf, numbersIn, reaching, newTo, PutsKeys}
+use Rattle.controller.specs.Lists.{In, mem, countIf, Rising}
+use Rattle.controller.specs.Keys.{counted, RisingKeys, merged, Slim, Cut, OneRun, keysOf, numbersIn, reaching, newTo, joinedBy, PutsKeys}
 use Rattle.controller.specs.State.{View, view, sound, soundList}
 use Rattle.controller.specs.Fields.{stateOf}
 use Rattle.controller.specs.Received.{frameOf, heardAfter, readIn, received, listIn}
 use Rattle.controller.specs.Rotation.{tally, allLists, echoed, candidatesAfter}
 use Rattle.controller.specs.Storage.{listUnder, contentUnder, Tallies, echoesIn, candidatesIn, SortsOut, GrowsLists}
-use Rattle.controller.specs.Laws.Keys.{keys-length, keys-every, keys-rise, keys-counted, numbers-in, numbers-from, numbers-rise, key-count, counted-some, keep-keys, keep-counted}
-use Rattle.controller.specs.Laws.Merge.{counted-append, merged-counts, merged-every, merged-rises, cut-more}
+use Rattle.controller.specs.Laws.Keys.{keys-length, keys-every, keys-rise, keys-counted, numbers-in, numbers-from, numbers-rise, key-count, counted-some, keep-keys, keep-counted, numbers-length}
+use Rattle.controller.specs.Laws.Merge.{counted-append, merged-counts, merged-every, cut-more, merged-none, merged-all, merged-both, merged-first, merged-second, slim-rest, slim-heads}
 use Rattle.controller.specs.Laws.Lists.{true-or-false, in-mem, out-mem, mem-out, in-or-not, rising-gives, rising-same, count-length, count-run, keep-in}
 use Rattle.controller.specs.Laws.Thirds.{third-is, two-thirds-is}
 use Rattle.controller.specs.Laws.State.{SoundList, Sound, sound-list-test, sound-gives, sound-stored}
@@ -206,11 +207,48 @@ pub candidates-tests : (s : State) → sound s ≡ true → soundList (s .candid
 candidates-tests s test =
     sym (ap (λ (t : State). soundList (t .candidates)) (sound-stored s test)) ∙ sound-list-test (listed (s .candidates)) (sound-gives s test .candidates)
 
+-- the numbers of a merge rise as those of its two lists do, how large they may be
+abbrev Climbs : List ℕ → List ℕ → Type 0
+Climbs l m = Slim l m → Rising (numbersIn l) → Rising (numbersIn m) → Rising (numbersIn (merged l m))
+
+merged-above : (x : ℕ) (l m : List ℕ) → Slim l m → ((y : ℕ) → In y (numbersIn l) → x < y) → ((y : ℕ) → In y (numbersIn m) → x < y) → (y : ℕ) → In y (numbersIn (merged l m)) → x < y
+merged-above x l m slim p q y i =
+    let r = numbers-from (merged l m) i in
+    rw (r .2) at (merged-every (λ z. x < z) l m slim (λ z j. p (z / 128) (numbers-in j)) (λ z j. q (z / 128) (numbers-in j)) (r .0) (r .1))
+
+rising-above : (x k : ℕ) (l : List ℕ) → x < k → Rising (k ∷ l) → (y : ℕ) → In y (k ∷ l) → x < y
+rising-above x k l low up y i = elim (List·Memᴰ·cases-cons i) [ inl e ↦ omega (arith, e) | inr j ↦ omega (arith, up .0 y j) ]
+
+climbs-from : (x : ℕ) (l : List ℕ) → ((m : List ℕ) → Climbs l m) → (m : List ℕ) → Climbs (x ∷ l) m
+climbs-from x l shorter [] slim up vp = rw (merged-all (x ∷ l)) up
+climbs-from x l shorter (y ∷ m) slim up vp =
+    let slims = slim-rest x y l m slim in
+    elim (ℕ-discrete (x / 128) (y / 128)) [
+      | yes e ↦
+          let k : (x + y % 128) / 128 ≡ x / 128 = omega (arith, slim-heads x y l m slim e) in
+          rw (merged-both x y l m e, k) (merged-above (x / 128) l m (slims .0) (up .0) (rw e (vp .0)), shorter m (slims .0) (up .1) (vp .1))
+      | no d ↦ elim (decLt x y) [
+        | yes h ↦
+            let above = rising-above (x / 128) (y / 128) (numbersIn m) (omega arith) vp in
+            rw (merged-first x y l m d h) (merged-above (x / 128) l (y ∷ m) (slims .1 .0) (up .0) above, shorter (y ∷ m) (slims .1 .0) (up .1) vp)
+        | no h ↦
+            let above = rising-above (y / 128) (x / 128) (numbersIn l) (omega arith) up in
+            rw (merged-second x y l m d (omega arith)) (merged-above (y / 128) (x ∷ l) m (slims .1 .1) above (vp .0), climbs-from x l shorter m (slims .1 .1) up (vp .1))
+      ]
+    ]
+
+merged-climbs : (l m : List ℕ) → Climbs l m
+merged-climbs [] m slim up vp = rw (merged-none m) vp
+merged-climbs (x ∷ l) m slim up vp = climbs-from x l (merged-climbs l) m slim up vp
+
+numbers-of-keys : (l : List ℕ) → numbersIn (keysOf 1 l) ≡ l
+numbers-of-keys [] = refl
+numbers-of-keys (x ∷ l) = let e : (x * 128 + 1) / 128 ≡ x = omega arith in rw (e, numbers-of-keys l)
+
 -- rising keys that count as the received lists do
 module _ (v : View) (es : List Entry) (l : List ℕ)
     (h : Sound v)
     (few : length (heardAfter v es) ≤ maxNumbers)
-    (small : (x : ℕ) → In x (v .candidates) → x < 4294967296)
     (up : RisingKeys l)
     (counts : (x : ℕ) → counted x l ≡ tally v es x)
   where
@@ -299,9 +337,11 @@ module _ (v : View) (es : List Entry) (l : List ℕ)
     all : List ℕ
     all = merged joining (keysOf 1 (v .candidates))
 
-    all-rises : RisingKeys all
+    all-rises : Rising (numbersIn all)
     unfolding all
-    all-rises = merged-rises joining (keysOf 1 (v .candidates)) joining-slim joining-rises (keys-rise 1 (omega arith) (v .candidates) (h .candidates .rises) small)
+    all-rises =
+        merged-climbs joining (keysOf 1 (v .candidates)) joining-slim (numbers-rise joining joining-rises)
+        (rw (numbers-of-keys (v .candidates)) (h .candidates .rises))
 
     all-gives : {x : ℕ} → In x (numbersIn all) → In x (v .candidates) ⊎ (2 * length (heardAfter v es) ≤ 3 * tally v es x)
     unfolding all
@@ -324,7 +364,7 @@ module _ (v : View) (es : List Entry) (l : List ℕ)
         let c = v .candidates in
         let old : (x : ℕ) → In x c → In x (numbersIn all) =
         λ x i. all-has (omega (arith, rw (in-mem i) at (keys-counted 1 (omega arith) x c (h .candidates .rises)))) in
-        rising-same (numbersIn all) (candidatesAfter v es) (numbers-rise all all-rises) (candidates-rising v es (h .candidates .rises))
+        rising-same (numbersIn all) (candidatesAfter v es) all-rises (candidates-rising v es (h .candidates .rises))
         (λ x i. candidates-in v es pos .1 (elim (all-gives i) [ inl j ↦ inl j | inr t ↦ inr (two-thirds-is (tally v es x) n .1 t) ]))
         (λ x i. elim (candidates-in v es pos .0 i) [
           | inl j ↦ old x j
@@ -339,18 +379,75 @@ module _ (v : View) (es : List Entry) (l : List ℕ)
     unfolding new joining all
     sorted-candidates = all-candidates
 
+-- the tally does not depend on the candidates
+tally-alone : (g : Fields) (h c e : List ℕ) (es : List Entry) (x : ℕ) → tally (view (stateOf g h [] e)) es x ≡ tally (view (stateOf g h c e)) es x
+unfolding tally received frameOf heardAfter
+tally-alone g h c e es x = refl
+
 -- what is sorted out of the one run is what the rules give
-pub sorted-grows : (s : State) (b : List ℕ) {k f : List ℕ} {runs : Runs} {end n : ℕ} {r : Lists} → sound s ≡ true
-    → n ≡ length (heardAfter (view s) (entries b)) → n ≤ maxNumbers → Below 4294967296 (s .candidates .at)
-    → Tallies s b k runs → OneRun k runs f end → SortsOut (take end f) (listed (s .candidates)) n r → GrowsLists s b r
-sorted-grows s b {k} {f} {runs} {end} {n} {r} test size few fit all one sorts =
-    let h = sound-gives s test in
-    let small = below-in (listed (s .candidates)) (below-take (s .candidates .len) (s .candidates .at) fit) in
-    let counts : (x : ℕ) → counted x (take end f) ≡ tally (view s) (entries b) x = λ x. one .counts x ∙ all .counts x in
-    let echoes = rw (← size) at (sorted-echoes (view s) (entries b) (take end f) h (omega arith) small (one .rises) counts) in
-    let candidates = rw (← size) at (sorted-candidates (view s) (entries b) (take end f) h (omega arith) small (one .rises) counts) in
+pub sorted-grows : (g : Fields) (h c e b : List ℕ) {k at f : List ℕ} {runs : Runs} {end : ℕ} {r : Lists} {c₁ e₁ : List ℕ} → sound (stateOf g h c e) ≡ true
+    → g .heard ≡ length (heardAfter (view (stateOf g h c e)) (entries b)) → g .heard ≤ maxNumbers → Tallies (stateOf g h [] e) b k runs at → OneRun k runs f end
+    → SortsOut (take end f) (g .heard) (record { len = g .candidates; at = c }) e r c₁ e₁ → GrowsLists (stateOf g h c e) b r c₁ e₁
+sorted-grows g h c e b {f = f} {end = end} test size few all one sorts =
+    let s = stateOf g h c e in
+    let counts : (x : ℕ) → counted x (take end f) ≡ tally (view s) (entries b) x = λ x. one .counts x ∙ all .counts x ∙ tally-alone g h c e (entries b) x in
+    let echoes = rw (← size) at (sorted-echoes (view s) (entries b) (take end f) (sound-gives s test) (omega arith) (one .rises) counts) in
+    let candidates = rw (← size) at (sorted-candidates (view s) (entries b) (take end f) (sound-gives s test) (omega arith) (one .rises) counts) in
     record {
       fits = sorts .fits ∙ rw (echoes, candidates);
+      few = sorts .few;
       echoes = λ fits. sorts .echoes fits ∙ ap stored echoes;
       candidates = λ fits. sorts .candidates fits ∙ ap stored candidates;
+      kept = sorts .kept;
     }
+
+-- ---- how many there can be
+
+-- keys of other numbers
+abbrev Apart : List ℕ → List ℕ → Type 0
+Apart l m = (x y : ℕ) → In x l → In y m → x / 128 ≢ y / 128
+
+abbrev Adds : List ℕ → List ℕ → Type 0
+Adds l m = Apart l m → length (merged l m) ≡ length l + length m
+
+adds-from : (x : ℕ) (l : List ℕ) → ((m : List ℕ) → Adds l m) → (m : List ℕ) → Adds (x ∷ l) m
+adds-from x l shorter [] apart = rw (merged-all (x ∷ l)) (omega arith)
+adds-from x l shorter (y ∷ m) apart =
+    let d = apart x y (List·Memᴰ·head refl) (List·Memᴰ·head refl) in
+    elim (decLt x y) [
+      | yes h ↦ let rest = shorter (y ∷ m) (λ a b i j. apart a b (List·Memᴰ·tail i) j) in rw (merged-first x y l m d h) (omega arith)
+      | no h ↦ let rest = adds-from x l shorter m (λ a b i j. apart a b i (List·Memᴰ·tail j)) in rw (merged-second x y l m d (omega arith)) (omega arith)
+    ]
+
+merged-adds : (l m : List ℕ) → Adds l m
+merged-adds [] m apart = rw (merged-none m) (omega arith)
+merged-adds (x ∷ l) m apart = adds-from x l (merged-adds l) m apart
+
+-- numbers that are not in a list make it longer by just their count
+pub joined-length : (l c : List ℕ) → ((k : ℕ) → In k l → ¬ In (k / 128) c) → length (joinedBy l c) ≡ length l + length c
+joined-length l c out =
+    let apart : Apart l (keysOf 1 c) = λ x y i j. keys-every 1 (omega arith) (λ z. x / 128 ≢ z) c (λ z k e. out x i (Memᴰ·cast e k)) y j in
+    numbers-length (merged l (keysOf 1 c)) ∙ merged-adds l (keysOf 1 c) apart ∙ rw (keys-length 1 c)
+
+-- so it is with those that join the candidates c
+pub candidates-length : (c : List ℕ) (n : ℕ) (l : List ℕ) → length (candidatesIn c n l) ≡ length (reaching (2 * n) (newTo c (reaching n l))) + length c
+candidates-length c n l =
+    joined-length (reaching (2 * n) (newTo c (reaching n l))) c
+    (λ k i.
+    let a = keep-in (λ (y : ℕ). leb (2 * n) (3 * (y % 128))) (newTo c (reaching n l)) .0 i in
+    let b = keep-in (λ (y : ℕ). not (mem (y / 128) c)) (reaching n l) .0 (a .0) in
+    mem-out c (not-true (mem (k / 128) c) (b .1)))
+
+lists-few : (v : View) (es : List Entry) → Sound v → (l : List ℕ) → length (allLists v es l) ≤ maxNumbers * length l
+lists-few v es h [] = omega arith
+lists-few v es h (x ∷ l) =
+    let one = list-sound (received v es x) (received-allowed v es h x) in
+    omega (arith, one .short, lists-few v es h l, length-append (listIn (received v es x)) (allLists v es l))
+
+-- 64 lists of 64 numbers
+pub all-lists-few : (s : State) (b : List ℕ) → sound s ≡ true → length (heardAfter (view s) (entries b)) ≤ maxNumbers
+    → length (allLists (view s) (entries b) (heardAfter (view s) (entries b))) ≤ maxNumbers * maxNumbers
+all-lists-few s b test few = omega (arith, lists-few (view s) (entries b) (sound-gives s test) (heardAfter (view s) (entries b)))
+
+pub echoes-few : (s : State) → sound s ≡ true → s .echoes .len ≤ maxNumbers
+echoes-few s test = omega (arith, ap (λ (t : State). t .echoes .len) (sound-stored s test), sound-gives s test .echoes .short)

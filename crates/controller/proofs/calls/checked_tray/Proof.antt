@@ -1,5 +1,5 @@
 -- `controller::calls::checked_tray` meets its contract: where all senders are heard the step has the last test; else `new_tray` has the tests that are left.
-use mathlib.Core.Path.{sym, _∙_}
+use mathlib.Core.Path.{_∙_}
 use borrow.Author.Needs.{needs}
 use lib.ListN.{getD-replicate}
 use Rattle.controller.specs.Laws.State.{sound-heard}

@@ -12,9 +12,8 @@ use Rattle.controller.specs.Calls.{Promise}
 use Rattle.controller.specs.Fields.{stateOf, answerOf}
 use Rattle.controller.specs.Laws.State.{sound-heard}
 use Rattle.controller.specs.Received.{heardAfter}
-use Rattle.controller.specs.Refusals.{trayRefusal, sendersFit, heardFit, listsFit}
+use Rattle.controller.specs.Refusals.{sendersFit, heardFit}
 use Rattle.controller.specs.State.{View, view}
-use Rattle.controller.specs.Storage.{Checked}
 use Rattle.controller.specs.declared.state.Answer.{Answer}
 use Rattle.controller.specs.declared.state.State.{State}
 use Rattle.controller.specs.declared.state.Worked.{Worked}

@@ -8,6 +8,7 @@ use borrow.Author.Needs.{needs}
 use denote.Ref.{now}
 use lib.ListN.{length, take}
 use lib.Seq.{slice, take-at, drop-at, take-take, length-take-le}
+use Rattle.wire.specs.Limits.{maxNumbers}
 use Rattle.wire.specs.Numbers.{stored, listed}
 use Rattle.wire.specs.declared.frame.Numbers.{Numbers}
 use Rattle.controller.specs.Lists.{mem}
@@ -16,9 +17,7 @@ use Rattle.controller.specs.Laws.Keys.{keys-rise, keys-counted, numbers-
 use Rattle.controller.specs.Laws.Merge.{merged-rises}
 use Rattle.controller.specs.Laws.Lists.{true-or-false}
 use Rattle.controller.specs.Laws.State.{ListTests, sound-list-gives}
-use Rattle.controller.specs.Laws.Storage.{grown-fits, grown-full}
 use Rattle.controller.specs.Laws.Tally.{below-in}
-use borrow.Author.Needs.{needs}
 use Rattle.controller.proofs.tally.join.Statement.{statement}
 use Rattle.controller.proofs.tally.join.Tie as tie
 
@@ -52,8 +51,8 @@ module _ (a b : List ℕ) (end : ℕ) (n : Numbers) (f : List ℕ) (next : ℕ)
         record {
           first = omega arith;
           second = long;
-          inside = omega (arith, puts .place, pre .few, pre .room, tests .list .short, tests .used);
-          room = omega (arith, puts .place, pre .few, pre .room, pre .same, tests .list .short, tests .used);
+          inside = omega (arith, puts .place, pre .few, pre .room, tests .used);
+          room = omega (arith, puts .place, pre .few, pre .room, pre .same, tests .used);
           slim = rw (one, other) slim;
         }
 
@@ -67,29 +66,46 @@ module _ (a b : List ℕ) (end : ℕ) (n : Numbers) (f : List ℕ) (next : ℕ)
           (merged-rises (take end a) (keysOf 1 (listed n)) slim (pre .rises)
           (keys-rise 1 (omega arith) (listed n) (tests .list .rises) (below-in (listed n) (puts .small))))
 
-      inside : length d ≡ length b → r ≤ length d
-      inside e = omega (arith, merges .short, mergeable .inside, pre .same)
+      few : r ≤ maxNumbers
+      few = omega (arith, merges .short, puts .place, pre .few, tests .used)
 
-      size : length d ≡ length b → length (joinedBy (take end a) (listed n)) ≡ r
-      size e = numbers-length (merged (take end a) (keysOf 1 (listed n))) ∙ sym (ap length all) ∙ length-take-le r d (inside e)
+      inside : length d ≡ length b → r ≤ length d
+      inside e = omega (arith, few, pre .room, pre .same)
+
+      size : length d ≡ length b → r ≡ length (joinedBy (take end a) (listed n))
+      size e = sym (length-take-le r d (inside e)) ∙ ap length all ∙ sym (numbers-length (merged (take end a) (keysOf 1 (listed n))))
+
+      joins : length d ≡ length b → (at : List ℕ) → at ≡ (stored (numbersIn (take r d))) .at → _≡_ {A = Numbers} (record { len = r; at = at }) (stored (joinedBy (take end a) (listed n)))
+      joins e at is =
+          let places : at ≡ (stored (joinedBy (take end a) (listed n))) .at = is ∙ ap (λ (l : List ℕ). (stored (numbersIn l)) .at) all in
+          λ i. record { len = size e i; at = places i }
+
+-- what the function was given, the list in it, and where its keys are put in
+abbrev given : tie.After-put-keys → tie.Start
+given c = c .before .before .before .before .before
+
+abbrev were : tie.Start → Numbers
+were c = record { len = c .args .len; at = now (c .args .list) }
 
 put-keys-requires : tie.Need-put-keys-requires
-put-keys-requires c κs =
-    let pre = c .before .before .before .pre in
-    let t = sound-list-gives (c .before .before .before .args .list) (pre .list) in
-    (omega (arith, t .used, t .list .short), omega arith, omega (arith, t .used, t .list .short, pre .few, pre .room))
+put-keys-requires c κs = let pre = c .before .before .before .before .pre in (omega (arith, pre .few), omega arith, omega (arith, pre .few, pre .room))
 
 merge-requires : tie.Need-merge-requires
 merge-requires c κs =
-    let a = c .before .before .before .before .before .before .before .before .args in
-    mergeable (now (a .a)) (now (a .b)) (a .end) (a .list) _ (c .before .before .before .before .put-keys .result) (c .before .before .before .before .before .before .before .before .pre) (search needs) (c .before .before .before .before .put-keys .ensures)
+    let p = c .before .before .before .before in
+    let a = given p .args in
+    mergeable (now (a .a)) (now (a .b)) (a .end) (were (given p)) _ (p .put-keys .result) (given p .pre) (search needs) (p .put-keys .ensures)
 
-numbers-of-requires : tie.Need-numbers-of-requires
-numbers-of-requires c κs =
-    let a = c .before .before .before .before .before .before .before .before .before .before .before .before .before .args in
-    let p = c .before .before .before .before .before .before .before .before .before .put-keys in
-    let m = c .before .before .before .before .merge in
-    (c .before .if1 .taken, inside (now (a .a)) (now (a .b)) (a .end) (a .list) _ (p .result) (c .before .before .before .before .before .before .before .before .before .before .before .before .before .pre) (search needs) (p .ensures) _ (m .result) (m .ensures) (search needs), rises (now (a .a)) (now (a .b)) (a .end) (a .list) _ (p .result) (c .before .before .before .before .before .before .before .before .before .before .before .before .before .pre) (search needs) (p .ensures) _ (m .result) (m .ensures))
+put-numbers-requires : tie.Need-put-numbers-requires
+put-numbers-requires c κs =
+    let m = c .before .before .before .before in
+    let p = m .before .before .before .before .before in
+    let a = given p .args in (
+      few (now (a .a)) (now (a .b)) (a .end) (were (given p)) _ (p .put-keys .result) (given p .pre) (search needs) (p .put-keys .ensures) _ (m .merge .result) (m .merge .ensures),
+      inside (now (a .a)) (now (a .b)) (a .end) (were (given p)) _ (p .put-keys .result) (given p .pre) (search needs) (p .put-keys .ensures) _ (m .merge .result) (m .merge .ensures) (search needs),
+      rises (now (a .a)) (now (a .b)) (a .end) (were (given p)) _ (p .put-keys .result) (given p .pre) (search needs) (p .put-keys .ensures) _ (m .merge .result) (m .merge .ensures),
+      search needs,
+    )
 
 same-length : tie.Need-same-length
 same-length c = search needs
@@ -99,37 +115,10 @@ same-length-2 c = search needs
 
 returns : tie.Need-returns
 returns c =
-    let a = c .before .before .before .before .before .before .before .before .before .before .before .before .before .before .args in
-    let p = c .before .before .before .before .before .before .before .before .before .before .put-keys in
-    let m = c .before .before .before .before .before .merge in
-    let e = size (now (a .a)) (now (a .b)) (a .end) (a .list) _ (p .result) (c .before .before .before .before .before .before .before .before .before .before .before .before .before .before .pre) (search needs) (p .ensures) _ (m .result) (m .ensures) (search needs) in
-    grown-fits (joinedBy (take (a .end) (now (a .a))) (listed (a .list))) (a .list) (c .numbers-of .result) (omega (arith, e, c .before .before .if1 .taken))
-    (c .numbers-of .ensures ∙ ap (λ (l : List ℕ). stored (numbersIn l)) (all (now (a .a)) (now (a .b)) (a .end) (a .list) _ (p .result) (c .before .before .before .before .before .before .before .before .before .before .before .before .before .before .pre) (search needs) (p .ensures) _ (m .result) (m .ensures)))
-
-same-length-3 : tie.Need-same-length-3
-same-length-3 c = search needs
-
-same-length-4 : tie.Need-same-length-4
-same-length-4 c = search needs
-
-returns-2 : tie.Need-returns-2
-returns-2 c =
-    let a = c .before .before .before .before .before .before .before .before .before .before .before .before .args in
-    let p = c .before .before .before .before .before .before .before .before .put-keys in
-    let m = c .before .before .before .merge in
-    let e = size (now (a .a)) (now (a .b)) (a .end) (a .list) _ (p .result) (c .before .before .before .before .before .before .before .before .before .before .before .before .pre) (search needs) (p .ensures) _ (m .result) (m .ensures) (search needs) in
-    grown-full (joinedBy (take (a .end) (now (a .a))) (listed (a .list))) (a .list) (omega (arith, e, c .if1 .left))
+    let m = c .before .before .before .before .before in
+    let p = m .before .before .before .before .before in
+    let a = given p .args in
+    joins (now (a .a)) (now (a .b)) (a .end) (were (given p)) _ (p .put-keys .result) (given p .pre) (search needs) (p .put-keys .ensures) _ (m .merge .result) (m .merge .ensures) (search needs) _ (c .put-numbers .ensures)
 
 pub join-spec : {M : Type 1} → statement M
-join-spec =
-    tie.close
-    (tie.spec
-    put-keys-requires
-    merge-requires
-    numbers-of-requires
-    same-length
-    same-length-2
-    returns
-    same-length-3
-    same-length-4
-    returns-2)
+join-spec = tie.close (tie.spec put-keys-requires merge-requires put-numbers-requires same-length same-length-2 returns)

@@ -9,7 +9,8 @@ use denote.Ref.{now}
 use lib.ListN.{length, getD, set, length-take}
 use lib.Seq.{slice}
 use Rattle.wire.specs.Numbers.{listed}
-use Rattle.controller.specs.Lists.{In, mem}
+use Rattle.wire.specs.declared.frame.Numbers.{Numbers}
+use Rattle.controller.specs.Lists.{In, mem, Rising}
 use Rattle.controller.specs.Keys.{RisingKeys}
 use Rattle.controller.specs.Storage.{below}
 use Rattle.controller.specs.Laws.Keys.{Keeping, keeping-first, keeping-drops, keeping-keeps, keeping-end}
@@ -53,15 +54,31 @@ module _ (c s : List ℕ) (end : ℕ) (keys : List ℕ) (place k i : ℕ)
           let same = slice-set (i + 1) end k (getD keys i 0) keys (omega (arith, w .keeping .short)) (omega (arith, w .keeping .short)) in
           record { keeping = keeping-keeps (isNew c) s end keys k i (w .keeping) lt inside (ap not t); rises = rw same (rises .2); before = rw same later }
 
+-- the list that the function is given
+abbrev were : List ℕ → ℕ → Numbers
+were list len = record { len = len; at = list }
+
 abbrev Inv-loop : tie.InvT-loop
-Inv-loop keys₀ end were olds place₀ k₀ i₀ keys place k i = Walking (listed were) keys₀ end keys place k i
+Inv-loop keys₀ end list len place₀ k₀ i₀ keys place k i = Walking (listed (were list len)) keys₀ end keys place k i
 
 abbrev μ-loop : tie.MeasureT-loop
-μ-loop keys₀ end were olds place₀ k₀ i₀ keys place k i = end - i
+μ-loop keys₀ end list len place₀ k₀ i₀ keys place k i = end - i
+
+-- what the function was given, and the list in it
+abbrev given : tie.At-loop Inv-loop μ-loop → tie.Start Inv-loop μ-loop
+given c = c .before .before
+
+abbrev olds : tie.At-loop Inv-loop μ-loop → Numbers
+olds c = were (now (given c .args .list)) (given c .args .len)
+
+tested : (c : tie.At-loop Inv-loop μ-loop) → Rising (listed (olds c)) × (olds c .len ≤ length (olds c .at))
+tested c =
+    let t = sound-list-gives (olds c) (given c .pre .2) in
+    (t .list .rises, omega (arith, t .used, length-take (olds c .len) (olds c .at)))
 
 loop-holds : tie.Need-loop-holds Inv-loop μ-loop
 loop-holds c =
-    record { keeping = record { short = search needs; most = search needs; size = refl; whole = refl }; rises = c .before .before .pre .1; before = λ z i. omega arith }
+    record { keeping = record { short = search needs; most = search needs; size = refl; whole = refl }; rises = c .before .pre .1; before = λ z i. omega arith }
 
 mul-key : tie.Need-mul-key Inv-loop μ-loop
 mul-key c = search needs
@@ -72,39 +89,26 @@ slice-read-key c = search needs
 add-i : tie.Need-add-i Inv-loop μ-loop
 add-i c = search needs
 
-slice-aggregate-place-from : tie.Need-slice-aggregate-place-from Inv-loop μ-loop
-slice-aggregate-place-from c = search needs
-
 place-from-requires : tie.Need-place-from-requires Inv-loop μ-loop
 place-from-requires c κs =
-    let v = c .before .before .before .loop in
-    let a = c .before .before .before .before .before .before .args in
-    let pre = c .before .before .before .before .before .before .pre in
-    let t = sound-list-gives (a .were) (pre .2) in
-    let fits : a .were .len ≤ length (a .were .at) = omega (arith, t .used, length-take (a .were .len) (a .were .at)) in
-    (t .list .rises, fits, here (listed (a .were)) (now (a .keys)) (a .end) (v .keys) (v .place) (v .k) (v .i) (v .inv) (c .before .before .loop-test .taken) (pre .0))
-
-slice-aggregate-stands-at : tie.Need-slice-aggregate-stands-at Inv-loop μ-loop
-slice-aggregate-stands-at c = search needs
+    let at = c .before .before .before in
+    let v = at .loop in
+    let a = given at .args in
+    (tested at .0, tested at .1, here (listed (olds at)) (now (a .keys)) (a .end) (v .keys) (v .place) (v .k) (v .i) (v .inv) (c .before .before .loop-test .taken) (given at .pre .0))
 
 stands-at-requires : tie.Need-stands-at-requires Inv-loop μ-loop
-stands-at-requires c κs =
-    let v = c .before .before .before .before .before .loop in
-    let a = c .before .before .before .before .before .before .before .before .args in
-    let pre = c .before .before .before .before .before .before .before .before .pre in
-    let t = sound-list-gives (a .were) (pre .2) in
-    let fits : a .were .len ≤ length (a .were .at) = omega (arith, t .used, length-take (a .were .len) (a .were .at)) in
-    (t .list .rises, fits, c .before .place-from .ensures)
+stands-at-requires c κs = let at = c .before .before .before .before .before in (tested at .0, tested at .1, c .before .place-from .ensures)
 
 loop-less : tie.Need-loop-less Inv-loop μ-loop
 loop-less c = search needs
 
 loop-again : tie.Need-loop-again Inv-loop μ-loop
 loop-again c =
-    let v = c .before .before .before .before .before .before .before .loop in
-    let a = c .before .before .before .before .before .before .before .before .before .before .args in
-    let pre = c .before .before .before .before .before .before .before .before .before .before .pre in
-    passes (listed (a .were)) (now (a .keys)) (a .end) (v .keys) (v .place) (v .k) (v .i) (v .inv) (c .before .before .before .before .before .before .loop-test .taken) (pre .0) (c .before .before .before .place-from .result) (c .before .before .before .place-from .ensures) (sym (c .before .stands-at .ensures) ∙ c .if1 .taken)
+    let at = c .before .before .before .before .before .before .before in
+    let v = at .loop in
+    let a = given at .args in
+    passes (listed (olds at)) (now (a .keys)) (a .end) (v .keys) (v .place) (v .k) (v .i) (v .inv) (c .before .before .before .before .before .before .loop-test .taken) (given at .pre .0)
+    (c .before .before .before .place-from .result) (c .before .before .before .place-from .ensures) (sym (c .before .stands-at .ensures) ∙ c .if1 .taken)
 
 mul-keys : tie.Need-mul-keys Inv-loop μ-loop
 mul-keys c = search needs
@@ -120,10 +124,11 @@ loop-less-2 c = search needs
 
 loop-again-2 : tie.Need-loop-again-2 Inv-loop μ-loop
 loop-again-2 c =
-    let v = c .before .before .before .before .before .before .before .loop in
-    let a = c .before .before .before .before .before .before .before .before .before .before .args in
-    let pre = c .before .before .before .before .before .before .before .before .before .before .pre in
-    keeps (listed (a .were)) (now (a .keys)) (a .end) (v .keys) (v .place) (v .k) (v .i) (v .inv) (c .before .before .before .before .before .before .loop-test .taken) (pre .0) (c .before .before .before .place-from .result) (c .before .before .before .place-from .ensures) (sym (c .before .stands-at .ensures) ∙ c .if1 .left)
+    let at = c .before .before .before .before .before .before .before in
+    let v = at .loop in
+    let a = given at .args in
+    keeps (listed (olds at)) (now (a .keys)) (a .end) (v .keys) (v .place) (v .k) (v .i) (v .inv) (c .before .before .before .before .before .before .loop-test .taken) (given at .pre .0)
+    (c .before .before .before .place-from .result) (c .before .before .before .place-from .ensures) (sym (c .before .stands-at .ensures) ∙ c .if1 .left)
 
 same-length : tie.Need-same-length Inv-loop μ-loop
 same-length c = search needs
@@ -131,9 +136,8 @@ same-length c = search needs
 returns : tie.Need-returns Inv-loop μ-loop
 returns c =
     let v = c .before .loop in
-    let a = c .before .before .before .before .args in
-    let pre = c .before .before .before .before .pre in
-    keeping-end (isNew (listed (a .were))) (now (a .keys)) (a .end) (v .keys) (v .k) (v .i) (v .inv .keeping) (c .loop-test .left)
+    let a = given (c .before) .args in
+    keeping-end (isNew (listed (olds (c .before)))) (now (a .keys)) (a .end) (v .keys) (v .k) (v .i) (v .inv .keeping) (c .loop-test .left)
 
 pub keep-new-spec : {M : Type 1} → statement M
 keep-new-spec =
@@ -145,9 +149,7 @@ keep-new-spec =
     mul-key
     slice-read-key
     add-i
-    slice-aggregate-place-from
     place-from-requires
-    slice-aggregate-stands-at
     stands-at-requires
     loop-less
     loop-again

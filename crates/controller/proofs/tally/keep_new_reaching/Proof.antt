@@ -3,6 +3,7 @@ use Prim.Native.Nat.{ℕ, _*_, _%_}
 use mathlib.Core.List.{List}
 use native.Mathlib.Omega.{arith}
 use borrow.Author.Needs.{needs}
+use denote.Ref.{now}
 use lib.Dec.{leb}
 use lib.ListN.{take}
 use Rattle.wire.specs.Numbers.{listed}
@@ -34,7 +35,7 @@ same-length c = search needs
 returns : tie.Need-returns
 returns c =
     let reached = c .before .before .before .before .before .before in
-    both _ _ _ _ _ (reached .keep-reaching .ensures) (reached .before .before .before .args .were) _ _ (c .before .before .keep-new .ensures)
+    both _ _ _ _ _ (reached .keep-reaching .ensures) (record { len = reached .before .before .before .args .len; at = now (reached .before .before .before .args .list) }) _ _ (c .before .before .keep-new .ensures)
 
 pub keep-new-reaching-spec : {M : Type 1} → statement M
 keep-new-reaching-spec = tie.close (tie.spec keep-reaching-requires keep-new-requires same-length returns)
