@@ -5,7 +5,7 @@ use mathlib.Core.Bool.{Bool, true, false, not, cond, and-eq-true-iff}
 use mathlib.Core.List.{List, Memᴰ·cast}
 use mathlib.Core.Logic.{inl, inr, _≢_}
 use mathlib.Core.Path.{_≡_, refl, sym, ap, _∙_}
-use borrow.Author.Tests.{not-true, le-leb}
+use borrow.Author.Tests.{not-true, le-leb, leb-true}
 use lib.Dec.{leb}
 use lib.ListN.{length}
 use Rattle.wire.specs.Limits.{maxNumbers}
@@ -24,7 +24,7 @@ use Rattle.controller.specs.Lists.{In, mem, insertAll}
 use Rattle.controller.specs.Received.{senders, heardAfter}
 use Rattle.controller.specs.Refusals.{trayRefusal, sendersFit, heardFit, listsFit}
 use Rattle.controller.specs.Rules.{next}
-use Rattle.controller.specs.State.{view, image, sound, withHeard}
+use Rattle.controller.specs.State.{View, view, image, sound, withHeard}
 use Rattle.controller.specs.Storage.{Hears, Finds, Ready, Checked}
 use Rattle.controller.specs.declared.state.Answer.{Answer}
 use Rattle.controller.specs.declared.state.State.{State}
@@ -90,43 +90,58 @@ module _ (s : State) (es : List Entry) (n : Numbers) (h : sound s ≡ true) (e :
       } in
       ap sound more-image ∙ sound-test _ all
 
--- what `hear` answers, in the rules' words
-module _ (s : State) (es : List Entry) {r : ℕ} {at : List ℕ} (heard : Hears (insertAll (senders es) (listed (s .heard))) r at) where
-  pub heard-fits : leb r maxNumbers ≡ heardFit (view s) es
-  unfolding heardAfter
-  heard-fits = heard .fits
-
-  pub heard-list : r ≤ maxNumbers → _≡_ {A = Numbers} (record { len = r; at = at }) (stored (heardAfter (view s) es))
-  unfolding heardAfter
-  heard-list = heard .list
-
 -- where all senders are heard the state is ready for the tray, and of the tests only the last is left
-pub known-passed : {s : State} {b f : List ℕ} {n : ℕ} → Checked s b n → Ready s b f → ((x : ℕ) → In x (senders (entries b)) → x ≢ s .own)
-    → trayRefusal s b n ≡ cond (listsFit (view s) (entries b)) 0 8
-known-passed {s} {b} k ready others =
-    tests-left k ∙ rw (out-mem (senders (entries b)) (ready .numbered), out-mem (senders (entries b)) (λ i. others (s .own) i refl), le-leb _ _ (ready-short ready))
+module _ {s : State} {b f : List ℕ} {n : ℕ} {r : Bool} (k : Checked s b n) (found : Finds (s .own) b (listed (s .heard)) r f) (all : r ≡ true) where
+  pub known-ready : Ready s b f
+  known-ready = ready-found s b f (k .sound) (k .packed) (λ x i. found .known all x i .0) (found .firsts all)
+
+  pub known-promised : {v : View} {before after : List ℕ} {a : Answer} → Promise (cond (listsFit (view s) (entries b)) 0 8) v s before a after → Promise (trayRefusal s b n) v s before a after
+  known-promised p =
+      let none = out-mem (senders (entries b)) (known-ready .numbered) in
+      let others = out-mem (senders (entries b)) (λ i. found .known all (s .own) i .1 refl) in
+      rw (tests-left k, none, others, le-leb _ _ (ready-short known-ready)) p
+
+-- what `hear` answers, in the rules' words
+pub heard-fits : (s : State) (es : List Entry) {r : ℕ} {at : List ℕ} → Hears (insertAll (senders es) (listed (s .heard))) r at → leb r maxNumbers ≡ heardFit (view s) es
+unfolding heardAfter
+heard-fits s es heard = heard .fits
+
+heard-list : (s : State) (es : List Entry) {r : ℕ} {at : List ℕ} → Hears (insertAll (senders es) (listed (s .heard))) r at → r ≤ maxNumbers
+    → _≡_ {A = Numbers} (record { len = r; at = at }) (stored (heardAfter (view s) es))
+unfolding heardAfter
+heard-list s es heard = heard .list
 
 -- one that has heard the senders is ready: none is the own number, so `first_entries` finds them all
-module _ {s : State} {b : List ℕ} {n : ℕ} (k : Checked s b n) (sent : sendersFit (view s) (entries b) ≡ true) {m : Numbers}
-    (e : m ≡ stored (heardAfter (view s) (entries b))) (short : length (heardAfter (view s) (entries b)) ≤ maxNumbers) where
-  pub hearing-sound : sound (heardState s m) ≡ true
-  hearing-sound = more-sound s (entries b) m (k .sound) e (senders-numbered s b sent) short
+module _ {s : State} {b : List ℕ} {n : ℕ} (k : Checked s b n) (sent : sendersFit (view s) (entries b) ≡ true) {r : ℕ} {at : List ℕ}
+    (heard : Hears (insertAll (senders (entries b)) (listed (s .heard))) r at) (few : r ≤ maxNumbers) where
+  -- those heard
+  abbrev all : Numbers
+  all = record { len = r; at = at }
 
-  all-heard : (x : ℕ) → In x (senders (entries b)) → In x (listed m) × (x ≢ s .own)
-  all-heard x i =
+  list : all ≡ stored (heardAfter (view s) (entries b))
+  list = heard-list s (entries b) heard few
+
+  fits : heardFit (view s) (entries b) ≡ true
+  fits = sym (heard-fits s (entries b) heard) ∙ le-leb _ _ few
+
+  pub hearing-sound : sound (heardState s all) ≡ true
+  hearing-sound = more-sound s (entries b) all (k .sound) list (senders-numbered s b sent) (leb-true _ _ fits)
+
+  known : (x : ℕ) → In x (senders (entries b)) → In x (listed all) × (x ≢ s .own)
+  known x i =
       let own = and-eq-true-iff (not (mem 0 (senders (entries b)))) (not (mem (s .own) (senders (entries b)))) .0 sent .1 in
-      let list : heardAfter (view s) (entries b) ≡ listed m = sym (ap listed e ∙ listed-stored _) in
-      (rw list at (heard-in (view s) (entries b) .1 (inl i)), λ q. mem-out (senders (entries b)) (not-true _ own) (Memᴰ·cast (sym q) i))
+      let same : heardAfter (view s) (entries b) ≡ listed all = sym (ap listed list ∙ listed-stored _) in
+      (rw same at (heard-in (view s) (entries b) .1 (inl i)), λ q. mem-out (senders (entries b)) (not-true _ own) (Memᴰ·cast (sym q) i))
 
-  pub hearing-ready : (r : Bool) (f : List ℕ) → Finds (s .own) b (listed m) r f → Ready (heardState s m) b f
-  hearing-ready true f found = ready-found (heardState s m) b f hearing-sound (k .packed) (λ x i. all-heard x i .0) (found .firsts refl)
-  hearing-ready false f found = absurd (found .strange refl all-heard)
+  pub hearing-ready : (q : Bool) {f : List ℕ} → Finds (s .own) b (listed all) q f → Ready (heardState s all) b f
+  hearing-ready true {f} found = ready-found (heardState s all) b f hearing-sound (k .packed) (λ x i. known x i .0) (found .firsts refl)
+  hearing-ready false found = absurd (found .strange refl known)
+
+  pub hearing-passed : trayRefusal s b n ≡ cond (listsFit (view s) (entries b)) 0 8
+  hearing-passed = tests-left k ∙ rw (sent, fits)
 
   -- what is promised of its step is promised of the tray
-  pub hearing-passed : trayRefusal s b n ≡ cond (listsFit (view s) (entries b)) 0 8
-  hearing-passed = tests-left k ∙ rw (sent, le-leb _ _ short)
-
-  pub hearing-promised : {before after : List ℕ} {r : Answer}
-      → Promise (cond (listsFit (view (heardState s m)) (entries b)) 0 8) (next (view (heardState s m)) (entries b)) (heardState s m) before r after
-      → Promise (trayRefusal s b n) (next (view s) (entries b)) (heardState s m) before r after
-  hearing-promised p = rw hearing-passed (rw (more-next s (entries b) m (k .sound) e) at p)
+  pub hearing-promised : {before after : List ℕ} {a : Answer}
+      → Promise (cond (listsFit (view (heardState s all)) (entries b)) 0 8) (next (view (heardState s all)) (entries b)) (heardState s all) before a after
+      → Promise (trayRefusal s b n) (next (view s) (entries b)) (heardState s all) before a after
+  hearing-promised p = rw hearing-passed (rw (more-next s (entries b) all (k .sound) list) at p)

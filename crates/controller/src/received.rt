@@ -116,14 +116,7 @@ fn entry_bit(tray: &[u8], entry: usize, round: u32) -> u8
 }
 
 // The bit of the frame received under the number `x`, if `entry` is its first entry; 3 where it is void.
-pub(crate) fn received_bit(
-    own: u32,
-    round: u32,
-    said: u8,
-    tray: &[u8],
-    x: u32,
-    entry: usize,
-) -> u8
+pub(crate) fn received_bit(own: u32, round: u32, said: u8, tray: &[u8], x: u32, entry: usize) -> u8
     ensures { λ r. ⌜ r ≡ bitUnder own round said (now (tray .entry)) x entry ⌝ }
 {
     if x == own {

@@ -32,14 +32,7 @@ pub(crate) fn roster(
     let mut j = 0;
     while j < fields.heard {
         let x = heard[j];
-        let bit = received_bit(
-            fields.own,
-            fields.round,
-            fields.said,
-            tray,
-            x,
-            firsts[j],
-        );
+        let bit = received_bit(fields.own, fields.round, fields.said, tray, x, firsts[j]);
         if bit == 2 {
             list[k] = x;
             k += 1;

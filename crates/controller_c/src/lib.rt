@@ -108,14 +108,7 @@ pub extern "C" fn controller_tray(
         let mut candidates = [0u32; MAX_NUMBERS];
         let mut echoes = [0u32; MAX_NUMBERS];
         let fields = take_apart(image, &mut heard, &mut candidates, &mut echoes);
-        let worked = work(
-            fields,
-            &mut heard,
-            &mut candidates,
-            &mut echoes,
-            tray,
-            out,
-        );
+        let worked = work(fields, &mut heard, &mut candidates, &mut echoes, tray, out);
         hand_over(worked, &heard, &candidates, &echoes, image, written)
     } else {
         no_image(written)

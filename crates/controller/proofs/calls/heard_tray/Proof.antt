@@ -1,6 +1,6 @@
 -- `controller::calls::heard_tray` meets its contract: where the lists fit, the step keeps soundness and its frame is sent; else the refusal is 8.
 use Prim.Native.Nat.{ℕ, _≤_, _<_}
-use mathlib.Core.Bool.{true, and-eq-true-iff}
+use mathlib.Core.Bool.{Bool, true, false, cond, and-eq-true-iff}
 use mathlib.Core.List.{List}
 use mathlib.Core.Path.{_≡_, refl, sym, ap, _∙_}
 use native.Mathlib.Omega.{arith}
@@ -13,11 +13,13 @@ use Rattle.controller.specs.Fields.{stateOf, answerOf}
 use Rattle.controller.specs.Laws.Ready.{ready-short}
 use Rattle.controller.specs.Laws.Rules.{next-sound}
 use Rattle.controller.specs.Laws.State.{view-image, sound-gives, sound-test}
+use Rattle.controller.specs.Calls.{Promise}
 use Rattle.controller.specs.Refusals.{listsFit}
 use Rattle.controller.specs.Rules.{next}
 use Rattle.controller.specs.State.{view, image, sound}
-use Rattle.controller.specs.Storage.{Ready}
+use Rattle.controller.specs.Storage.{Ready, Makes, Sends}
 use Rattle.controller.specs.declared.state.Answer.{Answer}
+use Rattle.controller.specs.declared.state.Fields.{Fields}
 use Rattle.controller.specs.declared.state.State.{State}
 use Rattle.controller.specs.declared.state.Worked.{Worked}
 use Rattle.wire.specs.Limits.{maxNumbers, lastRound}
@@ -28,26 +30,45 @@ use Rattle.controller.proofs.Promises.{promise-refused, promise-sent}
 use Rattle.controller.proofs.calls.heard_tray.Statement.{statement}
 use Rattle.controller.proofs.calls.heard_tray.Tie as tie
 
--- the state that is made is sound
-sound-made : (s : State) (b f : List ℕ) → Ready s b f → s .round < lastRound → listsFit (view s) (entries b) ≡ true → sound (image (next (view s) (entries b))) ≡ true
-sound-made s b f ready early fits =
-    let es = entries b in
-    let both = and-eq-true-iff (leb (length ((next (view s) es) .candidates)) maxNumbers) (leb (length ((next (view s) es) .echoes)) maxNumbers) .0 fits in
-    sound-test _ (next-sound (view s) es (sound-gives s (ready .sound)) early (ready .numbered) (ready-short ready) (leb-true _ _ (both .0)) (leb-true _ _ (both .1)))
-
 -- a stored list's numbers are among its places
 stored-inside : (n : Numbers) (l : List ℕ) → n ≡ stored l → n .len ≤ length (n .at)
 stored-inside n l e = rw (e, length-append) (omega arith)
 
--- what was given, and the state in it
+-- of the state before, and the fields and places after the step
+module _ {s : State} {b f : List ℕ} (ready : Ready s b f) (early : s .round < lastRound) {t : Bool} (g : Fields) {h c e : List ℕ} (makes : Makes s b t (stateOf g h c e)) where
+  -- the state that is made is sound
+  sound-made : listsFit (view s) (entries b) ≡ true → sound (image (next (view s) (entries b))) ≡ true
+  sound-made fits =
+      let es = entries b in
+      let both = and-eq-true-iff (leb (length ((next (view s) es) .candidates)) maxNumbers) (leb (length ((next (view s) es) .echoes)) maxNumbers) .0 fits in
+      sound-test _ (next-sound (view s) es (sound-gives s (ready .sound)) early (ready .numbered) (ready-short ready) (leb-true _ _ (both .0)) (leb-true _ _ (both .1)))
+
+  echoes-inside : t ≡ true → g .echoes ≤ length e
+  echoes-inside fits = stored-inside (record { len = g .echoes; at = e }) ((next (view s) (entries b)) .echoes) (ap (λ (u : State). u .echoes) (makes .made fits))
+
+  promised : {before after : List ℕ} {l : ℕ} → t ≡ true → ((i j : List ℕ) → sound (stateOf g i j e) ≡ true → Sends (view (stateOf g i j e)) before l after)
+      → Promise (cond (listsFit (view s) (entries b)) 0 8) (next (view s) (entries b)) s before (record { refusal = 0; state = stateOf g h c e; length = l }) after
+  promised {before} {after} {l} taken sends =
+      let fits = sym (makes .fits) ∙ taken in
+      let made = makes .made taken in
+      let shown : view (stateOf g h c e) ≡ next (view s) (entries b) = ap view made ∙ view-image (next (view s) (entries b)) in
+      let sent = sends h c (ap sound made ∙ sound-made fits) in
+      promise-sent _ _ s (stateOf g h c e) before l after (rw fits) made (rw shown at sent)
+
+  -- where the lists do not fit, places and fields are those that were
+  refused : {before : List ℕ} (w : Worked) (d : Fields) → t ≡ false → (_≡_ {A = State} (stateOf d (s .heard .at) (s .candidates .at) (s .echoes .at)) s) → h ≡ s .heard .at → w ≡ record { refusal = 8; fields = d; length = 0 }
+      → Promise (cond (listsFit (view s) (entries b)) 0 8) (next (view s) (entries b)) s before (answerOf w h c e) before
+  refused {before} w d left whole heard a =
+      let kept = makes .kept left in
+      let candidates = ap (λ (u : State). u .candidates .at) kept in
+      let echoes = ap (λ (u : State). u .echoes .at) kept in
+      let same : _≡_ {A = Answer} (answerOf w h c e) (record { refusal = 8; state = s; length = 0 }) =
+      ap (λ (u : Worked). answerOf u h c e) a ∙ (λ i. record { refusal = 8; state = stateOf d (heard i) (candidates i) (echoes i); length = 0 }) ∙ (λ i. record { refusal = 8; state = whole i; length = 0 }) in
+      promise-refused _ 8 _ s before (answerOf w h c e) (rw (sym (makes .fits) ∙ left)) refl same
+
+-- what was given
 abbrev given : tie.After-step → tie.Start
 given c = c .before .before .before .before .before
-
-abbrev before : tie.After-step → State
-before c = let a = given c .args in stateOf (a .fields) (now (a .heard)) (now (a .candidates)) (now (a .echoes))
-
-fits : (c : tie.Then1) → listsFit (view (before (c .before))) (entries (now (given (c .before) .args .tray))) ≡ true
-fits c = sym (c .before .step .ensures .fits) ∙ c .if1 .taken
 
 step-requires : tie.Need-step-requires
 step-requires c κs = let pre = c .before .before .before .before .pre in (pre .0, pre .1)
@@ -55,7 +76,8 @@ step-requires c κs = let pre = c .before .before .before .before .pre in (pre .
 send-requires : tie.Need-send-requires
 send-requires c κs =
     let at = c .before .before .before .before in
-    (given (at .before) .pre .2, stored-inside _ _ (ap (λ (s : State). s .echoes) (at .before .step .ensures .made (at .if1 .taken))))
+    let pre = given (at .before) .pre in
+    (pre .2, echoes-inside (pre .0) (pre .1) (at .before .step .result .fields) (at .before .step .ensures) (at .if1 .taken))
 
 left-requires : tie.Need-left-requires
 left-requires c κs = search needs
@@ -67,20 +89,13 @@ returns : tie.Need-returns
 returns c =
     let at = c .before .before .before .before .before .before .before in
     let pre = given (at .before) .pre in
-    let made = at .before .step .ensures .made (at .if1 .taken) in
-    promise-sent _ _ _ _ _ _ _ (rw (fits at)) made (rw (ap view made ∙ view-image _) at (c .before .before .send .ensures _ _ (ap sound made ∙ sound-made _ _ _ (pre .0) (pre .1) (fits at))))
+    promised (pre .0) (pre .1) (at .before .step .result .fields) (at .before .step .ensures) (at .if1 .taken) (c .before .before .send .ensures)
 
 returns-2 : tie.Need-returns-2
 returns-2 c =
     let at = c .before in
-    let a = given (at .before) .args in
-    let kept = at .before .step .ensures .kept (at .if1 .left) in
-    let candidates = ap (λ (s : State). s .candidates .at) kept in
-    let echoes = ap (λ (s : State). s .echoes .at) kept in
-    let same : _≡_ {A = Answer} (answerOf (c .left .result) (now (a .heard)) _ _) (record { refusal = 8; state = before (at .before); length = 0 }) =
-    ap (λ (w : Worked). answerOf w (now (a .heard)) _ _) (c .left .ensures)
-    ∙ (λ i. record { refusal = 8; state = stateOf (a .fields) (now (a .heard)) (candidates i) (echoes i); length = 0 }) in
-    promise-refused _ 8 _ _ _ _ (rw (sym (at .before .step .ensures .fits) ∙ at .if1 .left)) refl same
+    let pre = given (at .before) .pre in
+    refused (pre .0) (pre .1) (at .before .step .result .fields) (at .before .step .ensures) (c .left .result) (given (at .before) .args .fields) (at .if1 .left) refl refl (c .left .ensures)
 
 pub heard-tray-spec : {M : Type 1} → statement M
 heard-tray-spec = tie.close (tie.spec step-requires send-requires left-requires same-length returns returns-2)

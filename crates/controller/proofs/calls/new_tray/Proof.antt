@@ -1,40 +1,41 @@
 -- `controller::calls::new_tray` meets its contract: a sender that does not fit gives 6, too many heard give 7; else the step is that of the state which
 -- has heard all senders, and that is the step of the state before.
-use Prim.Native.Nat.{ℕ, _≤_}
+use Prim.Native.Nat.{ℕ}
 use mathlib.Core.Bool.{Bool, true, false, cond}
 use mathlib.Core.List.{List}
 use mathlib.Core.Path.{_≡_, refl, sym, ap, _∙_}
 use borrow.Author.Needs.{needs}
-use borrow.Author.Tests.{leb-true, le-leb, lt-leb}
+use borrow.Author.Tests.{lt-leb}
 use denote.Ref.{now}
-use lib.ListN.{length, getD-replicate}
+use lib.ListN.{getD-replicate}
 use Rattle.controller.specs.Calls.{Promise}
 use Rattle.controller.specs.Fields.{stateOf, answerOf}
 use Rattle.controller.specs.Laws.State.{sound-heard}
-use Rattle.controller.specs.Received.{heardAfter}
-use Rattle.controller.specs.Refusals.{sendersFit, heardFit}
+use Rattle.controller.specs.Refusals.{sendersFit, listsFit}
 use Rattle.controller.specs.State.{View, view}
 use Rattle.controller.specs.declared.state.Answer.{Answer}
+use Rattle.controller.specs.declared.state.Fields.{Fields}
 use Rattle.controller.specs.declared.state.State.{State}
 use Rattle.controller.specs.declared.state.Worked.{Worked}
 use Rattle.wire.specs.Limits.{maxNumbers}
-use Rattle.wire.specs.Numbers.{stored}
 use Rattle.wire.specs.Tray.{entries}
-use Rattle.wire.specs.declared.frame.Numbers.{Numbers}
-use Rattle.controller.proofs.Heard.{heard-fits, heard-list, hearing-sound, hearing-ready, hearing-passed, hearing-promised}
+use Rattle.controller.proofs.Heard.{heard-fits, hearing-sound, hearing-ready, hearing-passed, hearing-promised}
 use Rattle.controller.proofs.Promises.{promise-refused, promise-left, promise-worked, senders-numbered, tests-left}
 use Rattle.controller.proofs.calls.new_tray.Statement.{statement}
 use Rattle.controller.proofs.calls.new_tray.Tie as tie
 
--- a refusal under 8 keeps state and buffer
-record Kept (t : Bool) (s : State) (b : List ℕ) (r : Answer) (a : List ℕ) : Type 0 where
-  over : t ≡ false
-  state : r .state ≡ s
-  output : a ≡ b
-
-kept : (t : Bool) (v : View) (s : State) (b : List ℕ) (r : Answer) (a : List ℕ) → (r .refusal ≡ 0 → ⊥) → Promise (cond t 0 8) v s b r a → Kept t s b r a
-kept true v s b r a z p = absurd (z (p .number))
-kept false v s b r a z p = record { over = refl; state = p .state; output = p .output }
+-- a refusal under 8 leaves places and buffer, so it can be given with the fields f and the places h of those heard before the tray
+still-left : (t : Bool) {n : ℕ} {v : View} {s : State} {l c e before after : List ℕ} (f : Fields) (h : List ℕ) (u w : Worked) → n ≡ cond t 0 8 → (u .refusal ≡ 0 → ⊥)
+    → Promise n v s before (answerOf u l c e) after → w ≡ record { refusal = 8; fields = f; length = 0 }
+    → Promise n v (stateOf f h (s .candidates .at) (s .echoes .at)) before (answerOf w h c e) after
+still-left true f h u w q z p a = absurd (z (p .number ∙ q))
+still-left false {n} {v} {s} {l} {c} {e} {before} f h u w q z p a =
+    let kept : stateOf (u .fields) l c e ≡ s = rw q at (p .state) in
+    let candidates = ap (λ (t : State). t .candidates .at) kept in
+    let echoes = ap (λ (t : State). t .echoes .at) kept in
+    let same : _≡_ {A = Answer} (answerOf w h c e) (record { refusal = 8; state = stateOf f h (s .candidates .at) (s .echoes .at); length = 0 }) =
+    ap (λ (x : Worked). answerOf x h c e) a ∙ (λ i. record { refusal = 8; state = stateOf f h (candidates i) (echoes i); length = 0 }) in
+    rw (rw q at (p .output)) (promise-refused n 8 v _ before (answerOf w h c e) q refl same)
 
 -- what was given, what was asked of the senders and of those heard, and what was found
 abbrev given : tie.After-senders-fit → tie.Start
@@ -55,13 +56,6 @@ before c = let a = given c .args in stateOf (a .fields) (now (a .heard)) (now (a
 sent : (c : tie.Then1) → sendersFit (view (before (c .before))) (entries (now (given (c .before) .args .tray))) ≡ true
 sent c = sym (c .before .senders-fit .ensures) ∙ c .if1 .taken
 
--- those heard after the tray, and that they are at most 64
-after : (c : tie.Then2) → _≡_ {A = Numbers} (record { len = c .before .hear .result; at = _ }) (stored (heardAfter (view (before (asked (c .before) .before))) (entries (now (given (asked (c .before) .before) .args .tray)))))
-after c = heard-list (before (asked (c .before) .before)) _ (c .before .hear .ensures) (c .if2 .taken)
-
-short : (c : tie.Then2) → length (heardAfter (view (before (asked (c .before) .before))) (entries (now (given (asked (c .before) .before) .args .tray)))) ≤ maxNumbers
-short c = leb-true _ _ (sym (heard-fits (before (asked (c .before) .before)) _ (c .before .hear .ensures)) ∙ le-leb _ _ (c .if2 .taken))
-
 senders-fit-requires : tie.Need-senders-fit-requires
 senders-fit-requires c κs = search needs
 
@@ -80,14 +74,15 @@ first-entries-requires c κs =
     let at = counted .before in
     let first = asked (at .before) in
     let pre = given (first .before) .pre in
-    (pre .packed, sound-heard _ (hearing-sound pre (sent first) (after at) (short at)), λ j h. getD-replicate 64 j (counted .entry-count .result) 0 h ∙ counted .entry-count .ensures)
+    (pre .packed, sound-heard _ (hearing-sound pre (sent first) (at .before .hear .ensures) (at .if2 .taken)), λ j h. getD-replicate 64 j (counted .entry-count .result) 0 h ∙ counted .entry-count .ensures)
 
 heard-tray-requires : tie.Need-heard-tray-requires
 heard-tray-requires c κs =
-    let at = c .before .before .before .before .before in
-    let first = asked (few at .before) in
+    let found = c .before .before .before .before .before in
+    let at = few found in
+    let first = asked (at .before) in
     let pre = given (first .before) .pre in
-    (hearing-ready pre (sent first) (after (few at)) (short (few at)) _ _ (at .first-entries .ensures), pre .early, pre .room)
+    (hearing-ready pre (sent first) (at .before .hear .ensures) (at .if2 .taken) _ (found .first-entries .ensures), pre .early, pre .room)
 
 left-requires : tie.Need-left-requires
 left-requires c κs = search needs
@@ -104,10 +99,10 @@ same-length c = search needs
 returns : tie.Need-returns
 returns c =
     let worked = c .before .before .before .before in
-    let at = found worked in
-    let first = asked (few at .before) in
+    let at = few (found worked) in
+    let first = asked (at .before) in
     let pre = given (first .before) .pre in
-    promise-worked _ _ _ _ _ _ _ (c .if3 .taken) (hearing-promised pre (sent first) (after (few at)) (short (few at)) (worked .heard-tray .ensures))
+    promise-worked _ _ _ _ _ _ _ (c .if3 .taken) (hearing-promised pre (sent first) (at .before .hear .ensures) (at .if2 .taken) (worked .heard-tray .ensures))
 
 same-length-2 : tie.Need-same-length-2
 same-length-2 c = search needs
@@ -115,24 +110,18 @@ same-length-2 c = search needs
 returns-2 : tie.Need-returns-2
 returns-2 c =
     let worked = c .before .before .before .before .before in
-    let at = found worked in
-    let first = asked (few at .before) in
-    let a = given (first .before) .args in
-    let pre = given (first .before) .pre in
-    let was = kept _ _ _ _ _ _ (c .before .if3 .left) (worked .heard-tray .ensures) in
-    let candidates = ap (λ (s : State). s .candidates .at) (was .state) in
-    let echoes = ap (λ (s : State). s .echoes .at) (was .state) in
-    let same : _≡_ {A = Answer} (answerOf (c .left .result) (now (a .heard)) _ _) (record { refusal = 8; state = before (first .before); length = 0 }) =
-    ap (λ (w : Worked). answerOf w (now (a .heard)) _ _) (c .left .ensures)
-    ∙ (λ i. record { refusal = 8; state = stateOf (a .fields) (now (a .heard)) (candidates i) (echoes i); length = 0 }) in
-    rw (was .output) (promise-refused _ 8 _ _ _ _ (hearing-passed pre (sent first) (after (few at)) (short (few at)) ∙ rw (was .over)) refl same)
+    let at = few (found worked) in
+    let first = asked (at .before) in
+    let start = given (first .before) in
+    let heard = at .before .hear .ensures in
+    still-left (listsFit (view (before (first .before))) (entries (now (start .args .tray)))) (start .args .fields) (now (start .args .heard)) (worked .heard-tray .result) (c .left .result) (hearing-passed (start .pre) (sent first) heard (at .if2 .taken)) (c .before .if3 .left)
+    (hearing-promised (start .pre) (sent first) heard (at .if2 .taken) (worked .heard-tray .ensures)) (c .left .ensures)
 
 returns-3 : tie.Need-returns-3
 returns-3 c =
     let hear = c .before .before in
     let first = asked hear in
-    let over : heardFit (view (before (first .before))) (entries (now (given (first .before) .args .tray))) ≡ false =
-    sym (heard-fits (before (first .before)) _ (hear .hear .ensures)) ∙ lt-leb _ _ (c .before .if2 .left) in
+    let over = sym (heard-fits (before (first .before)) (entries (now (given (first .before) .args .tray))) (hear .hear .ensures)) ∙ lt-leb (hear .hear .result) maxNumbers (c .before .if2 .left) in
     promise-left _ 7 _ _ _ _ _ _ _ (tests-left (given (first .before) .pre) ∙ rw (sent first, over)) refl (c .left2 .ensures)
 
 returns-4 : tie.Need-returns-4

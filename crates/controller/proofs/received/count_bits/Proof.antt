@@ -129,11 +129,11 @@ returns c =
       omega (arith, v .inv .0, v .inv .1),
       omega (arith, v .inv .0, v .inv .2),
       λ x e ready.
-      let counts = v .inv .3 x e ready in
-      record {
-        zeros = ended ready 0 (v .j) (v .zeros) (counts .0) (c .if1 .left);
-        ones = ended ready 1 (v .j) (v .ones) (counts .1) (c .if1 .left);
-      },
+          let counts = v .inv .3 x e ready in
+          record {
+            zeros = ended ready 0 (v .j) (v .zeros) (counts .0) (c .if1 .left);
+            ones = ended ready 1 (v .j) (v .ones) (counts .1) (c .if1 .left);
+          },
     )
 
 pub count-bits-spec : {M : Type 1} → statement M
