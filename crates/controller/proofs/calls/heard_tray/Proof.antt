@@ -6,7 +6,6 @@ use mathlib.Core.Path.{_≡_, refl, sym, ap, _∙_}
 use native.Mathlib.Omega.{arith}
 use borrow.Author.Needs.{needs}
 use borrow.Author.Tests.{leb-true}
-use denote.Ref.{now}
 use lib.Dec.{leb}
 use lib.ListN.{length, length-append}
 use Rattle.controller.specs.Fields.{stateOf, answerOf}
