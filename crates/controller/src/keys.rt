@@ -39,8 +39,16 @@ fn copy(src: &[u64], from: usize, end: usize, dst: &mut [u64], to: usize) -> usi
     k
 }
 
+// The lower of two numbers.
+fn least(x: usize, y: usize) -> usize
+    ensures { λ r. ⌜ r ≡ cond (ltb x y) x y ⌝ }
+{
+    if x < y { x } else { y }
+}
+
 // Merges the keys from `a` to `b` with those from `b` to `e` into `dst` from `to` on, and returns the place behind them. `x` and `y` are the first
-// keys that are left, `u` and `v` those behind them, which are read before it is known which is needed.
+// keys that are left, `u` and `v` those behind them, which are read before it is known which is needed. Each turn takes at most one key of each run,
+// so for as many turns as the shorter rest has keys neither run ends, and neither end need be looked at in each of them.
 pub(crate) fn merge(src: &[u64], a: usize, b: usize, e: usize, dst: &mut [u64], to: usize) -> usize
     requires { ⌜ Mergeable (now src) (now dst) a b e to ⌝ }
     ensures { λ r. ⌜ Merges (now (src .entry)) (now (dst .entry)) (now (dst .exit)) a b e to r ⌝ }
@@ -54,25 +62,28 @@ pub(crate) fn merge(src: &[u64], a: usize, b: usize, e: usize, dst: &mut [u64], 
         if e <= j {
             return copy(src, i, b, dst, k);
         }
-        let u = src[i + 1];
-        let v = src[j + 1];
-        if x / 128 == y / 128 {
-            dst[k] = x + y % 128;
-            x = u;
-            y = v;
-            i += 1;
-            j += 1;
+        let stop = k + least(b - i, e - j);
+        while k < stop {
+            let u = src[i + 1];
+            let v = src[j + 1];
+            if x / 128 == y / 128 {
+                dst[k] = x + y % 128;
+                x = u;
+                y = v;
+                i += 1;
+                j += 1;
+                k += 1;
+                continue;
+            }
+            let first = pick(x, y, 1, 0) as usize;
+            dst[k] = pick(x, y, x, y);
+            let w = pick(x, y, u, x);
+            y = pick(x, y, y, v);
+            x = w;
+            i += first;
+            j += 1 - first;
             k += 1;
-            continue;
         }
-        let first = pick(x, y, 1, 0) as usize;
-        dst[k] = pick(x, y, x, y);
-        let w = pick(x, y, u, x);
-        y = pick(x, y, y, v);
-        x = w;
-        i += first;
-        j += 1 - first;
-        k += 1;
     }
     copy(src, j, e, dst, k)
 }

@@ -124,12 +124,18 @@ fn put_received(
     }
 }
 
-// Whether two parts have the same bytes. The loop has no way out, so that many bytes are compared at once.
+// Whether two parts have the same bytes. Lists that differ mostly differ in the last byte, so that is compared first: most pairs are told apart by
+// it. The loop has no way out, so that many bytes are compared at once.
 fn same_bytes(a: &[u8], b: &[u8]) -> bool
     ensures { λ r. ⌜ (r ≡ true → now (a .entry) ≡ now (b .entry)) ⌝ }
 {
     let len = a.len();
     if len == b.len() {
+        if 0 < len {
+            if a[len - 1] != b[len - 1] {
+                return false;
+            }
+        }
         let mut same = true;
         let mut i = 0;
         while i < len {

@@ -29,6 +29,21 @@ Inv-loop a b len same₀ i₀ same i = (i ≤ len) × (same ≡ true → take i 
 abbrev μ-loop : tie.MeasureT-loop
 μ-loop a b len same₀ i₀ same i = len - i
 
+sub-if3 : tie.Need-sub-if3 Inv-loop μ-loop
+sub-if3 c = search needs
+
+shared-slice-read-if3 : tie.Need-shared-slice-read-if3 Inv-loop μ-loop
+shared-slice-read-if3 c = search needs
+
+sub-if3-2 : tie.Need-sub-if3-2 Inv-loop μ-loop
+sub-if3-2 c = search needs
+
+shared-slice-read-if3-2 : tie.Need-shared-slice-read-if3-2 Inv-loop μ-loop
+shared-slice-read-if3-2 c = search needs
+
+returns : tie.Need-returns Inv-loop μ-loop
+returns c = λ e. absurd (false≢true e)
+
 loop-holds : tie.Need-loop-holds Inv-loop μ-loop
 loop-holds c = (search needs, λ e. refl)
 
@@ -47,15 +62,15 @@ loop-less c = search needs
 loop-again : tie.Need-loop-again Inv-loop μ-loop
 loop-again c =
     let turn = c .before .before .before in
-    let a = turn .before .before .args in
+    let a = turn .before .before .before .args in
     let v = turn .loop in
     (search needs, more (now (a .a)) (now (a .b)) (v .i) (v .same) (search needs) (search needs) (v .inv .1))
 
-returns : tie.Need-returns Inv-loop μ-loop
-returns c = λ e. whole _ _ (c .before .loop .i) (search needs) (search needs) (c .before .loop .inv .1 e)
-
 returns-2 : tie.Need-returns-2 Inv-loop μ-loop
-returns-2 c = λ e. absurd (false≢true e)
+returns-2 c = λ e. whole _ _ (c .before .loop .i) (search needs) (search needs) (c .before .loop .inv .1 e)
+
+returns-3 : tie.Need-returns-3 Inv-loop μ-loop
+returns-3 c = λ e. absurd (false≢true e)
 
 pub same-bytes-spec : {M : Type 1} → statement M
 same-bytes-spec =
@@ -63,11 +78,16 @@ same-bytes-spec =
     (tie.spec
     Inv-loop
     μ-loop
+    sub-if3
+    shared-slice-read-if3
+    sub-if3-2
+    shared-slice-read-if3-2
+    returns
     loop-holds
     shared-slice-read-same
     shared-slice-read-same-2
     add-i
     loop-less
     loop-again
-    returns
-    returns-2)
+    returns-2
+    returns-3)
