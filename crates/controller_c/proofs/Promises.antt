@@ -1,4 +1,5 @@
 -- How a host's call meets its promise.
+--     parted             an answer that meets the controller's promise meets it in parts
 --     made-sound         the state of an answer that is not refused is the one promised, so it is sound where that is
 --     promise-handed     an answer that meets the controller's promise, handed over, meets the host's
 --     promise-refused    a refusal under 1 stores nothing
@@ -8,13 +9,19 @@ use mathlib.Core.List.{List}
 use mathlib.Core.Path.{_≡_, refl, sym, ap, _∙_}
 use lib.Dec.{eqb}
 use Rattle.controller.specs.Calls.{Promise}
+use Rattle.controller.specs.Fields.{stateOf, answerOf}
 use Rattle.controller.specs.State.{View, image, sound}
 use Rattle.controller.specs.declared.state.Answer.{Answer}
+use Rattle.controller.specs.declared.state.Fields.{Fields}
 use Rattle.controller.specs.declared.state.State.{State}
 use Rattle.controller_c.specs.Calls.{ImagePromise, HandedOver}
 use Rattle.controller_c.specs.Image.{laidOut}
 
 module _ (k : ℕ) (v : View) (s : State) (before : List ℕ) (a : Answer) (after : List ℕ) (p : Promise k v s before a after) where
+  pub parted : (f : Fields) (heard candidates echoes : List ℕ) → stateOf f heard candidates echoes ≡ a .state
+      → Promise k v s before (answerOf (record { refusal = a .refusal; fields = f; length = a .length }) heard candidates echoes) after
+  parted f heard candidates echoes e = record { number = p .number; state = e ∙ p .state; written = p .written; output = p .output }
+
   pub made-sound : (k ≡ 0 → sound (image v) ≡ true) → a .refusal ≡ 0 → sound (a .state) ≡ true
   made-sound f h =
       let e : k ≡ 0 = sym (p .number) ∙ h in

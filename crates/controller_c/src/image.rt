@@ -1,9 +1,9 @@
 // A state and its image: 1,024 bytes, laid out as docs/IMAGE.md has them. Of a list's places only the used ones are read and written one by one.
 ghost use mathlib.Core.Bool.{true};
-ghost use mathlib.Core.List.{[], _++_};
+ghost use mathlib.Core.List.{[]};
 ghost use mathlib.Core.Path.{_≡_};
 ghost use Prim.Native.Nat.{_+_, _-_, _*_, _≤_};
-ghost use lib.ListN.{length, take, drop, replicate};
+ghost use lib.ListN.{length, take, replicate};
 ghost use lib.Seq.{sets, slice};
 ghost use Rattle.wire.specs.Limits.{maxNumbers, numberWidth};
 ghost use Rattle.wire.specs.Words.{wordsAt, wordsBytes};
@@ -49,7 +49,7 @@ fn all_zero(image: &[u8], from: usize, to: usize) -> bool
 // Reads the first `count` places of a list.
 fn take_places(image: &[u8], from: usize, count: usize, at: &mut [u32; MAX_NUMBERS])
     requires { ⌜ (count ≤ maxNumbers) × (from + numberWidth * count ≤ length (now image)) ⌝ }
-    ensures { λ r. ⌜ now (at .exit) ≡ wordsAt (now (image .entry)) from count ++ drop count (now (at .entry)) ⌝ }
+    ensures { λ r. ⌜ now (at .exit) ≡ sets (now (at .entry)) 0 (wordsAt (now (image .entry)) from count) ⌝ }
 {
     let mut i = 0;
     while i < count {
@@ -148,7 +148,7 @@ fn put_head(image: &mut [u8], fields: Fields)
 
 // Writes the first `len` places of a list.
 fn put_places(image: &mut [u8], from: usize, at: &[u32; MAX_NUMBERS], len: usize)
-    requires { ⌜ (len ≤ maxNumbers) × (from + numberWidth * len ≤ length (now image)) ⌝ }
+    requires { ⌜ (len ≤ maxNumbers) × (length (now at) ≡ maxNumbers) × (from + numberWidth * len ≤ length (now image)) ⌝ }
     ensures { λ r. ⌜ now (image .exit) ≡ sets (now (image .entry)) from (wordsBytes (take len (now (at .entry)))) ⌝ }
 {
     let mut i = 0;

@@ -1,20 +1,26 @@
--- `controller_c::controller_start` meets its contract: an image of the right length leaves the refusal to the controller's start, whose answer is handed over.
+-- `controller_c::controller_start` meets its contract: with an image of the right length the refusal is that of the controller's start,
+-- whose answer is handed over in parts.
 use borrow.Author.Needs.{needs}
 use borrow.Author.Tests.{eq-eqb, ne-eqb}
 use Rattle.controller_c.specs.Image.{imageBytes}
 use Rattle.controller_c.specs.Laws.Calls.{start-makes}
-use Rattle.controller_c.proofs.Promises.{made-sound, promise-handed, promise-refused}
+use Rattle.controller_c.proofs.Promises.{parted, made-sound, promise-handed, promise-refused}
 use Rattle.controller_c.proofs.controller_start.Statement.{statement}
 use Rattle.controller_c.proofs.controller_start.Tie as tie
 
 start-requires : tie.Need-start-requires
 start-requires c κs = search needs
 
+fields-of-requires : tie.Need-fields-of-requires
+fields-of-requires c κs = search needs
+
 hand-over-requires : tie.Need-hand-over-requires
 hand-over-requires c κs =
+    let apart = c .before .before .before .before .before .before .before .before in
+    let begun = apart .before .before .before .before .before .before .before in
     record {
       whole = search needs;
-      made = made-sound _ _ _ _ _ _ (c .before .before .before .before .start .ensures) (start-makes _ _ _);
+      made = made-sound _ _ _ _ _ _ (parted _ _ _ _ _ _ (begun .start .ensures) _ _ _ _ (apart .fields-of .ensures)) (start-makes _ _ _);
     }
 
 no-image-requires : tie.Need-no-image-requires
@@ -28,9 +34,12 @@ same-length-2 c = search needs
 
 returns : tie.Need-returns
 returns c =
-    promise-handed _ _ _ _ _ _ (c .before .before .before .before .before .before .before .start .ensures) _ _ _ _ _
-    (rw (eq-eqb _ imageBytes (c .before .before .before .before .before .before .before .before .before .if1 .taken)))
-    (c .before .before .hand-over .ensures)
+    let handed = c .before .before in
+    let apart = handed .before .before .before .before .before .before .before .before .before in
+    let begun = apart .before .before .before .before .before .before .before in
+    promise-handed _ _ _ _ _ _ (parted _ _ _ _ _ _ (begun .start .ensures) _ _ _ _ (apart .fields-of .ensures)) _ _ _ _ _
+    (rw (eq-eqb _ imageBytes (begun .before .before .if1 .taken)))
+    (handed .hand-over .ensures)
 
 returns-2 : tie.Need-returns-2
 returns-2 c = promise-refused _ _ _ _ _ _ (rw (ne-eqb _ imageBytes (c .before .before .if1 .left))) (c .no-image .ensures)
@@ -40,6 +49,7 @@ controller-start-spec =
     tie.close
     (tie.spec
     start-requires
+    fields-of-requires
     hand-over-requires
     no-image-requires
     same-length

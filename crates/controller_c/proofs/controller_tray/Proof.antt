@@ -1,14 +1,24 @@
--- `controller_c::controller_tray` meets its contract: an image of the right shape leaves the refusal to the controller's tray, whose answer is handed over.
+-- `controller_c::controller_tray` meets its contract: an image of the right shape leaves the refusal to the controller's call in place,
+-- whose answer is handed over.
 use borrow.Author.Needs.{needs}
+use Prim.Native.Nat.{ℕ}
 use mathlib.Core.Bool.{true}
-use mathlib.Core.Path.{_≡_, sym, _∙_}
+use mathlib.Core.List.{List}
+use mathlib.Core.Path.{_≡_, refl, sym, _∙_}
 use denote.Ref.{now}
+use Rattle.controller.specs.Calls.{TrayPromise}
+use Rattle.controller.specs.declared.state.Answer.{Answer}
+use Rattle.controller.specs.declared.state.State.{State}
 use Rattle.controller_c.specs.Image.{shaped}
 use Rattle.controller_c.specs.Laws.Calls.{shaped-refusal, unshaped-refusal, tray-makes}
 use Rattle.controller_c.specs.Laws.Image.{shaped-length}
 use Rattle.controller_c.proofs.Promises.{made-sound, promise-handed, promise-refused}
 use Rattle.controller_c.proofs.controller_tray.Statement.{statement}
 use Rattle.controller_c.proofs.controller_tray.Tie as tie
+
+-- what is promised of the state in parts is promised of that in the image
+joined : (s d : State) (t before : List ℕ) (a : Answer) (after : List ℕ) → s ≡ d → TrayPromise s t before a after → TrayPromise d t before a after
+joined s d t before a after e p = rw e at p
 
 passed : (c : tie.Then1) → shaped (now (c .before .before .before .before .before .before .args .image)) ≡ true
 passed c = sym (c .before .is-shaped .ensures) ∙ c .if1 .taken
@@ -17,16 +27,18 @@ is-shaped-requires : tie.Need-is-shaped-requires
 is-shaped-requires c κs = search needs
 
 take-apart-requires : tie.Need-take-apart-requires
-take-apart-requires c κs = shaped-length _ (passed (c .before))
+take-apart-requires c κs = (shaped-length _ (passed (c .before .before .before .before)), refl, refl, refl)
 
-tray-requires : tie.Need-tray-requires
-tray-requires c κs = search needs
+work-requires : tie.Need-work-requires
+work-requires c κs = search needs
 
 hand-over-requires : tie.Need-hand-over-requires
 hand-over-requires c κs =
+    let done = c .before .before .before .before .before .before .before in
+    let apart = done .before .before .before .before .before in
     record {
-      whole = shaped-length _ (passed (c .before .before .before .before .before .before .before .before));
-      made = made-sound _ _ _ _ _ _ (c .before .before .before .before .tray .ensures) (tray-makes _ _ _);
+      whole = shaped-length _ (passed (apart .before .before .before .before .before));
+      made = made-sound _ _ _ _ _ _ (done .work .ensures) (tray-makes _ _ _);
     }
 
 no-image-requires : tie.Need-no-image-requires
@@ -40,9 +52,14 @@ same-length-2 c = search needs
 
 returns : tie.Need-returns
 returns c =
-    promise-handed _ _ _ _ _ _ (rw (c .before .before .before .before .before .before .before .before .before .take-apart .ensures) at (c .before .before .before .before .before .before .before .tray .ensures)) _ _ _ _ _
-    (shaped-refusal _ _ _ (passed (c .before .before .before .before .before .before .before .before .before .before .before)))
-    (c .before .before .hand-over .ensures)
+    let handed = c .before .before in
+    let done = handed .before .before .before .before .before .before .before .before in
+    let apart = done .before .before .before .before .before in
+    let shaped = apart .before .before .before .before .before in
+    let t = now (shaped .before .before .before .before .before .before .args .tray) in
+    promise-handed _ _ _ _ _ _ (joined _ _ t _ _ _ (apart .take-apart .ensures) (done .work .ensures)) _ _ _ _ _
+    (shaped-refusal _ _ _ (passed shaped))
+    (handed .hand-over .ensures)
 
 same-length-3 : tie.Need-same-length-3
 same-length-3 c = search needs
@@ -56,7 +73,7 @@ controller-tray-spec =
     (tie.spec
     is-shaped-requires
     take-apart-requires
-    tray-requires
+    work-requires
     hand-over-requires
     no-image-requires
     same-length

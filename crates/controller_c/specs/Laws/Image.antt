@@ -1,4 +1,6 @@
 -- Laws of images: laying out and taking apart are inverse to each other on sound states.
+--     places-split           a list's places, where the unused ones are 0
+--     stored-bytes           the bytes of a sound list's places are those of the used ones, then zeros
 --     takenApart-laidOut     a sound state is what its image is taken apart to
 --     laidOut-takenApart     a sound image is what the state in it is laid out to
 --     laidOut-sound          the image of a sound state is sound
@@ -7,26 +9,26 @@ use Prim.Native.Nat.{ℕ, zero, suc, _+_, _*_, _-_, _/_, _%_, _≤_, _<_}
 use mathlib.Core.Bool.{Bool, true, false, cond, and-eq-true-iff}
 use mathlib.Core.List.{List, [], _∷_, _++_, append-assoc}
 use mathlib.Core.Path.{_≡_, refl, sym, ap, _∙_}
-use native.Mathlib.Nat.{add-zero}
+use native.Mathlib.Nat.{zero-add, add-zero, suc-add, add-assoc}
 use native.Mathlib.Omega.{arith}
 use borrow.Author.Tests.{leb-true, eqb-true, eq-eqb}
 use lib.Dec.{leb, eqb}
-use lib.ListN.{length, drop, replicate, length-append, length-drop, length-replicate}
-use lib.Seq.{drop-at}
+use lib.ListN.{length, getD, take, drop, replicate, length-append, length-drop, length-replicate}
+use lib.Seq.{slice, take-all, drop-at, getD-take, getD-drop}
 use Rattle.wire.specs.Frame.{bitFits}
 use Rattle.wire.specs.Limits.{maxNumbers, numberWidth}
-use Rattle.wire.specs.Numbers.{stored, listed}
+use Rattle.wire.specs.Numbers.{listed}
 use Rattle.wire.specs.Words.{wordAt, wordBytes, wordsAt, wordsBytes, Below}
 use Rattle.wire.specs.Laws.Words.{word-back, words-behind, byte-drop, word-drop, words-drop}
 use Rattle.wire.specs.declared.frame.Numbers.{Numbers}
-use Rattle.controller.specs.State.{sound}
-use Rattle.controller.specs.Laws.State.{sound-gives, sound-stored}
+use Rattle.controller.specs.State.{soundList, sound}
+use Rattle.controller.specs.Laws.State.{sound-list-gives, sound-list-test, sound-gives, sound-stored}
 use Rattle.controller.specs.declared.state.State.{State}
 use Rattle.controller_c.specs.Image.{imageBytes, heardAt, candidatesAt, echoesAt, reservedAt, countBytes, listWidth, headBytes, listBytes, zerosFrom, laidOut, placesAt, listAt, takenApart, zeros, shaped, soundImage}
 
 -- ---- lengths
 
-words-bytes-length : (l : List ℕ) → length (wordsBytes l) ≡ numberWidth * length l
+pub words-bytes-length : (l : List ℕ) → length (wordsBytes l) ≡ numberWidth * length l
 words-bytes-length [] = refl
 words-bytes-length (x ∷ l) = omega (arith, words-bytes-length l)
 
@@ -35,11 +37,13 @@ pub record Sized (n : Numbers) : Type 0 where
   pub few : n .len ≤ maxNumbers
   pub places : length (n .at) ≡ maxNumbers
 
-stored-sized : (n : Numbers) → stored (listed n) ≡ n → length (listed n) ≤ maxNumbers → Sized n
-stored-sized n e h =
+pub list-sized : (n : Numbers) → soundList n ≡ true → Sized n
+list-sized n h =
+    let t = sound-list-gives n h in
     let l = listed n in
-    let len : n .len ≡ length l = ap (λ (m : Numbers). m .len) (sym e) in
-    let at : n .at ≡ l ++ replicate (maxNumbers - length l) 0 = ap (λ (m : Numbers). m .at) (sym e) in
+    let used = t .used in
+    let short = t .list .short in
+    let at : n .at ≡ l ++ replicate (maxNumbers - length l) 0 = ap (λ (m : Numbers). m .at) (sym (t .back)) in
     let all : length (l ++ replicate (maxNumbers - length l) 0) ≡ maxNumbers = rw (length-append, length-replicate) (omega arith) in
     record { few = omega arith; places = ap length at ∙ all }
 
@@ -48,14 +52,29 @@ pub record SizedLists (s : State) : Type 0 where
   pub candidates : Sized (s .candidates)
   pub echoes : Sized (s .echoes)
 
-pub sound-sized : (s : State) → sound s ≡ true → SizedLists s
-sound-sized s h =
+-- the lists of a sound state
+pub record SoundLists (s : State) : Type 0 where
+  pub heard : soundList (s .heard) ≡ true
+  pub candidates : soundList (s .candidates) ≡ true
+  pub echoes : soundList (s .echoes) ≡ true
+
+pub sound-lists : (s : State) → sound s ≡ true → SoundLists s
+sound-lists s h =
     let g = sound-gives s h in
     let e = sound-stored s h in
     record {
-      heard = stored-sized (s .heard) (ap (λ (t : State). t .heard) e) (g .heard .short);
-      candidates = stored-sized (s .candidates) (ap (λ (t : State). t .candidates) e) (g .candidates .short);
-      echoes = stored-sized (s .echoes) (ap (λ (t : State). t .echoes) e) (g .echoes .short);
+      heard = ap (λ (t : State). soundList (t .heard)) (sym e) ∙ sound-list-test (listed (s .heard)) (g .heard);
+      candidates = ap (λ (t : State). soundList (t .candidates)) (sym e) ∙ sound-list-test (listed (s .candidates)) (g .candidates);
+      echoes = ap (λ (t : State). soundList (t .echoes)) (sym e) ∙ sound-list-test (listed (s .echoes)) (g .echoes);
+    }
+
+pub sound-sized : (s : State) → sound s ≡ true → SizedLists s
+sound-sized s h =
+    let l = sound-lists s h in
+    record {
+      heard = list-sized (s .heard) (l .heard);
+      candidates = list-sized (s .candidates) (l .candidates);
+      echoes = list-sized (s .echoes) (l .echoes);
     }
 
 pub list-bytes-length : (n : Numbers) → Sized n → length (listBytes n) ≡ listWidth
@@ -80,7 +99,57 @@ module _ (s : State) where
         zeros-from-length reservedAt,
       )
 
+-- ---- a list's places, used and unused
+
+words-split : (b : List ℕ) (at m n : ℕ) → wordsAt b at (m + n) ≡ wordsAt b at m ++ wordsAt b (at + numberWidth * m) n
+words-split b at zero n = rw (zero-add, add-zero)
+words-split b at (suc m) n =
+    let e : at + numberWidth * suc m ≡ at + numberWidth + numberWidth * m = omega arith in
+    rw (suc-add, e, words-split b (at + numberWidth) m n)
+
+zeros-at : (l : List ℕ) → zeros l ≡ true → (i : ℕ) → getD l i 0 ≡ 0
+zeros-at [] h i = refl
+zeros-at (x ∷ l) h zero = eqb-true x 0 (and-eq-true-iff (eqb x 0) (zeros l) .0 h .0)
+zeros-at (x ∷ l) h (suc i) = zeros-at l (and-eq-true-iff (eqb x 0) (zeros l) .0 h .1) i
+
+zero-words : (b : List ℕ) (at n : ℕ) → ((i : ℕ) → i < numberWidth * n → getD b (at + i) 0 ≡ 0) → wordsAt b at n ≡ replicate n 0
+zero-words b at zero h = refl
+zero-words b at (suc n) h =
+    let first : getD b at 0 ≡ 0 = rw add-zero at (h 0 (omega arith)) in
+    let rest : (i : ℕ) → i < numberWidth * n → getD b (at + numberWidth + i) 0 ≡ 0 = λ i k. rw add-assoc (h (numberWidth + i) (omega arith)) in
+    rw (first, h 1 (omega arith), h 2 (omega arith), h 3 (omega arith), zero-words b (at + numberWidth) n rest)
+
+pub places-split : (b : List ℕ) (at n : ℕ) → n ≤ maxNumbers → zeros (slice (at + numberWidth * n) (at + numberWidth * maxNumbers) b) ≡ true
+    → placesAt b at ≡ wordsAt b at n ++ replicate (maxNumbers - n) 0
+unfolding placesAt
+places-split b at n h z =
+    let from = at + numberWidth * n in
+    let to = at + numberWidth * maxNumbers in
+    let sum : n + (maxNumbers - n) ≡ maxNumbers = omega arith in
+    let byte : (i : ℕ) → i < numberWidth * (maxNumbers - n) → getD b (from + i) 0 ≡ 0 =
+    λ i k. sym (getD-drop from (take to b) i 0 ∙ getD-take to b (from + i) 0 (omega arith)) ∙ zeros-at (slice from to b) z i in
+    ap (wordsAt b at) (sym sum) ∙ words-split b at n (maxNumbers - n) ∙ ap (λ (l : List ℕ). wordsAt b at n ++ l) (zero-words b from (maxNumbers - n) byte)
+
+words-bytes-append : (l m : List ℕ) → wordsBytes (l ++ m) ≡ wordsBytes l ++ wordsBytes m
+words-bytes-append [] m = refl
+words-bytes-append (x ∷ l) m = rw (words-bytes-append l m)
+
+words-bytes-zeros : (n : ℕ) → wordsBytes (replicate n 0) ≡ replicate (numberWidth * n) 0
+words-bytes-zeros zero = refl
+words-bytes-zeros (suc n) = let e : numberWidth * suc n ≡ suc (suc (suc (suc (numberWidth * n)))) = omega arith in rw (e, words-bytes-zeros n)
+
+pub stored-bytes : (n : Numbers) → soundList n ≡ true → wordsBytes (n .at) ≡ wordsBytes (listed n) ++ replicate (numberWidth * (maxNumbers - n .len)) 0
+stored-bytes n h =
+    let t = sound-list-gives n h in
+    ap (λ (m : Numbers). wordsBytes (m .at)) (sym (t .back))
+    ∙ words-bytes-append (listed n) (replicate (maxNumbers - length (listed n)) 0)
+    ∙ rw (t .used) (ap (λ (l : List ℕ). wordsBytes (listed n) ++ l) (words-bytes-zeros (maxNumbers - n .len)))
+
 -- ---- soundness
+
+-- the bytes after the last field are the image's last ones
+pub reserved-last : (b : List ℕ) → length b ≡ imageBytes → slice reservedAt imageBytes b ≡ drop reservedAt b
+reserved-last b e = ap (drop reservedAt) (take-all imageBytes b (omega arith))
 
 shaped-gives : (b : List ℕ) → shaped b ≡ true → (length b ≡ imageBytes) × (zeros (drop reservedAt b) ≡ true)
 unfolding shaped

@@ -1,6 +1,6 @@
 -- `controller_c::image::is_sound_image` meets its contract: the two tests are those of `soundImage`, in its order.
 use borrow.Author.Needs.{needs}
-use mathlib.Core.Path.{sym, ap, _∙_}
+use mathlib.Core.Path.{refl, sym, ap, _∙_}
 use Rattle.controller.specs.State.{sound}
 use Rattle.controller_c.specs.Image.{soundImage}
 use Rattle.controller_c.specs.Laws.Image.{shaped-length}
@@ -11,14 +11,19 @@ is-shaped-requires : tie.Need-is-shaped-requires
 is-shaped-requires c κs = search needs
 
 take-apart-requires : tie.Need-take-apart-requires
-take-apart-requires c κs = shaped-length _ (sym (c .before .is-shaped .ensures) ∙ c .if1 .taken)
+take-apart-requires c κs =
+    let shaped = c .before .before .before in
+    (shaped-length _ (sym (shaped .before .is-shaped .ensures) ∙ shaped .if1 .taken), refl, refl, refl)
 
 is-sound-requires : tie.Need-is-sound-requires
 is-sound-requires c κs = search needs
 
 returns : tie.Need-returns
 unfolding soundImage
-returns c = rw (sym (c .before .before .before .is-shaped .ensures) ∙ c .before .before .if1 .taken) (c .is-sound .ensures ∙ ap sound (c .before .take-apart .ensures))
+returns c =
+    let taken = c .before .before .before .before in
+    let shaped = taken .before .before .before .before in
+    rw (sym (shaped .before .is-shaped .ensures) ∙ shaped .if1 .taken) (c .is-sound .ensures ∙ ap sound (taken .take-apart .ensures))
 
 returns-2 : tie.Need-returns-2
 unfolding soundImage

@@ -1,21 +1,19 @@
 -- `controller_c::image::lay_out` meets its contract: the stores, each behind the one before, are one run of stores over all of the image.
 use borrow.Author.Needs.{needs}
-use Prim.Native.Nat.{ℕ, _+_}
+use Prim.Native.Nat.{ℕ}
 use mathlib.Core.List.{List, _++_}
 use mathlib.Core.Path.{_≡_, sym, _∙_}
 use denote.Ref.{now}
 use native.Mathlib.Omega.{arith}
 use lib.ListN.{length}
 use lib.Seq.{sets}
+use Rattle.controller.specs.Fields.{stateOf}
 use Rattle.controller.specs.declared.state.State.{State}
 use Rattle.controller_c.specs.Image.{imageBytes, heardAt, candidatesAt, echoesAt, reservedAt, headBytes, listBytes, zerosFrom, laidOut}
 use Rattle.controller_c.specs.Laws.Image.{SizedLists, sound-sized, list-bytes-length, laid-out-length}
-use Rattle.controller_c.proofs.Stores.{sets-join, sets-whole}
+use Rattle.controller_c.proofs.Stores.{join-at, sets-whole}
 use Rattle.controller_c.proofs.image.lay_out.Statement.{statement}
 use Rattle.controller_c.proofs.image.lay_out.Tie as tie
-
-join-at : (l : List ℕ) (i k : ℕ) (vs ws : List ℕ) → k ≡ i + length vs → sets (sets l i vs) k ws ≡ sets l i (vs ++ ws)
-join-at l i k vs ws e = rw e (sets-join l i vs ws)
 
 laid : (s : State) (b : List ℕ) → SizedLists s → length b ≡ imageBytes
     → sets (sets (sets (sets (sets b 0 (headBytes s)) heardAt (listBytes (s .heard))) candidatesAt (listBytes (s .candidates))) echoesAt (listBytes (s .echoes))) reservedAt (zerosFrom reservedAt)
@@ -42,21 +40,22 @@ put-head-requires c κs = search needs
 put-lists-requires : tie.Need-put-lists-requires
 put-lists-requires c κs = search needs
 
-put-zeros-requires : tie.Need-put-zeros-requires
-put-zeros-requires c κs = search needs
+clear-requires : tie.Need-clear-requires
+clear-requires c κs = search needs
 
 same-length : tie.Need-same-length
 same-length c = search needs
 
 returns : tie.Need-returns
+unfolding zerosFrom
 returns c =
-    let a = c .before .before .before .before .before .before .before .before .before .before .before .before .before .args in
-    let p = c .before .before .before .before .before .before .before .before .before .before .before .before .before .pre in
-    c .before .before .put-zeros .ensures
+    let start = c .before .before .before .before .before .before .before .before .before .before .before .before .before in
+    let a = start .args in
+    let s = stateOf (a .fields) (now (a .heard)) (now (a .candidates)) (now (a .echoes)) in
+    c .before .before .clear .ensures
     ∙ rw (c .before .before .before .before .before .before .put-lists .ensures, c .before .before .before .before .before .before .before .before .before .before .put-head .ensures)
-    (laid (a .state) (now (a .image)) (sound-sized (a .state) (p .0)) (p .1))
+    (laid s (now (a .image)) (sound-sized s (start .pre .0)) (start .pre .1))
 
 pub lay-out-spec : {M : Type 1} → statement M
 lay-out-spec =
-    tie.close
-    (tie.spec put-head-requires put-lists-requires put-zeros-requires same-length returns)
+    tie.close (tie.spec put-head-requires put-lists-requires clear-requires same-length returns)

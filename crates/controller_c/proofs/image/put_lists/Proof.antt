@@ -1,17 +1,27 @@
--- `controller_c::image::put_lists` meets its contract: in a sound state each count is at most 64.
+-- `controller_c::image::put_lists` meets its contract: each list of a sound state is sound.
 use borrow.Author.Needs.{needs}
-use Rattle.controller_c.specs.Laws.Image.{sound-sized}
+use denote.Ref.{now}
+use Rattle.controller.specs.Fields.{stateOf}
+use Rattle.controller.specs.declared.state.State.{State}
+use Rattle.controller_c.specs.Laws.Image.{SoundLists, sound-lists}
 use Rattle.controller_c.proofs.image.put_lists.Statement.{statement}
 use Rattle.controller_c.proofs.image.put_lists.Tie as tie
 
+-- the state that is lent in parts
+abbrev state : tie.Start → State
+state c = stateOf (c .args .fields) (now (c .args .heard)) (now (c .args .candidates)) (now (c .args .echoes))
+
+lists : (c : tie.Start) → SoundLists (state c)
+lists c = sound-lists (state c) (c .pre .0)
+
 put-list-requires : tie.Need-put-list-requires
-put-list-requires c κs = (search needs, sound-sized _ (c .before .before .before .before .before .pre .0) .heard .few)
+put-list-requires c κs = (search needs, lists (c .before .before) .heard)
 
 put-list-requires-2 : tie.Need-put-list-requires-2
-put-list-requires-2 c κs = (search needs, sound-sized _ (c .before .before .before .before .before .before .before .before .before .pre .0) .candidates .few)
+put-list-requires-2 c κs = (search needs, lists (c .before .before .before .before .before .before) .candidates)
 
 put-list-requires-3 : tie.Need-put-list-requires-3
-put-list-requires-3 c κs = (search needs, sound-sized _ (c .before .before .before .before .before .before .before .before .before .before .before .before .before .pre .0) .echoes .few)
+put-list-requires-3 c κs = (search needs, lists (c .before .before .before .before .before .before .before .before .before .before) .echoes)
 
 same-length : tie.Need-same-length
 same-length c = search needs

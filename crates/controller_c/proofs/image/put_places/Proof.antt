@@ -6,31 +6,36 @@ use native.Mathlib.Nat.{add-zero}
 use native.Mathlib.Numerals.{add-one}
 use native.Mathlib.Omega.{arith}
 use borrow.Author.Needs.{needs}
-use lib.ListN.{length, drop, getD, drop-of-length-le}
-use lib.Seq.{sets, drop-cons}
-use Rattle.wire.specs.Limits.{maxNumbers, numberWidth}
+use denote.Ref.{now}
+use lib.ListN.{length, getD}
+use lib.Seq.{sets, slice, slice-cons, slice-empty}
+use Rattle.wire.specs.Limits.{numberWidth}
 use Rattle.wire.specs.Words.{wordBytes, wordsBytes}
 use Rattle.controller_c.proofs.Stores.{sets-join}
 use Rattle.controller_c.proofs.image.put_places.Statement.{statement}
 use Rattle.controller_c.proofs.image.put_places.Tie as tie
 
--- one turn stores one number and leaves the rest
-turn : (l out last : List ℕ) (b i : ℕ) → i < length l → last ≡ sets out (b + numberWidth * i) (wordBytes (getD l i 0))
-    → sets last (b + numberWidth * (i + 1)) (wordsBytes (drop (i + 1) l)) ≡ sets out (b + numberWidth * i) (wordsBytes (drop i l))
-turn l out last b i h e =
-    let at = b + numberWidth * i in
-    let next : b + numberWidth * (i + 1) ≡ at + length (wordBytes (getD l i 0)) = omega arith in
-    let split : drop i l ≡ getD l i 0 ∷ drop (i + 1) l = rw add-one (drop-cons l i 0 h) in
-    rw (next, e, split) (sets-join out at (wordBytes (getD l i 0)) (wordsBytes (drop (i + 1) l)))
+module _ (l : List ℕ) (n i : ℕ) where
+  -- one turn stores one number and leaves the rest
+  turn : (out last : List ℕ) (b : ℕ) → i < n → n ≤ length l → last ≡ sets out (b + numberWidth * i) (wordBytes (getD l i 0))
+      → sets last (b + numberWidth * (i + 1)) (wordsBytes (slice (i + 1) n l)) ≡ sets out (b + numberWidth * i) (wordsBytes (slice i n l))
+  turn out last b h k e =
+      let at = b + numberWidth * i in
+      let next : b + numberWidth * (i + 1) ≡ at + length (wordBytes (getD l i 0)) = omega arith in
+      let split : slice i n l ≡ getD l i 0 ∷ slice (i + 1) n l = rw add-one (slice-cons i n l 0 h k) in
+      rw (next, e, split) (sets-join out at (wordBytes (getD l i 0)) (wordsBytes (slice (i + 1) n l)))
+
+  done : i ≡ n → slice i n l ≡ []
+  done e = rw e (slice-empty n l)
 
 abbrev Inv-loop : tie.InvT-loop
-Inv-loop image₀ from list i₀ image i =
-    (i ≤ maxNumbers)
+Inv-loop image₀ from at len i₀ image i =
+    (i ≤ len)
     × (length image ≡ length image₀)
-    × (sets image (from + numberWidth * i) (wordsBytes (drop i (list .at))) ≡ sets image₀ from (wordsBytes (list .at)))
+    × (sets image (from + numberWidth * i) (wordsBytes (slice i len at)) ≡ sets image₀ from (wordsBytes (slice 0 len at)))
 
 abbrev μ-loop : tie.MeasureT-loop
-μ-loop image₀ from list i₀ image i = maxNumbers - i
+μ-loop image₀ from at len i₀ image i = len - i
 
 loop-holds : tie.Need-loop-holds Inv-loop μ-loop
 loop-holds c = (search needs, refl, rw add-zero)
@@ -59,9 +64,10 @@ loop-less c = search needs
 loop-again : tie.Need-loop-again Inv-loop μ-loop
 loop-again c =
     let v = c .before .before .before .before .before .before .loop in
-    let l = c .before .before .before .before .before .before .before .before .args .t3 .at in
-    let n : length l ≡ maxNumbers = search needs in
-    (search needs, search needs, turn l (v .image) (c .before .before .put-word .last .0) _ (v .i) (search needs) (c .before .before .put-word .ensures) ∙ v .inv .2)
+    let a = c .before .before .before .before .before .before .before .before .args in
+    let l = now (a .at) in
+    let put = c .before .before .put-word in
+    (search needs, search needs, turn l (a .len) (v .i) (v .image) (put .last .0) (a .from) (search needs) (search needs) (put .ensures) ∙ v .inv .2)
 
 same-length : tie.Need-same-length Inv-loop μ-loop
 same-length c = search needs
@@ -69,10 +75,8 @@ same-length c = search needs
 returns : tie.Need-returns Inv-loop μ-loop
 returns c =
     let v = c .before .loop in
-    let l = c .before .before .before .args .t3 .at in
-    let n : length l ≡ maxNumbers = search needs in
-    let e : drop (v .i) l ≡ [] = drop-of-length-le l {i = v .i} (search needs) in
-    rw e at (v .inv .2)
+    let a = c .before .before .before .args in
+    rw (done (now (a .at)) (a .len) (v .i) (omega arith)) at (v .inv .2)
 
 pub put-places-spec : {M : Type 1} → statement M
 put-places-spec =

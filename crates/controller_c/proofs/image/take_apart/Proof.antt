@@ -1,5 +1,8 @@
 -- `controller_c::image::take_apart` meets its contract: each field is read where `takenApart` has it.
 use borrow.Author.Needs.{needs}
+use denote.Ref.{now}
+use lib.ListN.{getD}
+use Rattle.controller_c.specs.Image.{bitAt, saidAt, strongAt, decisionAt}
 use Rattle.controller_c.proofs.image.take_apart.Statement.{statement}
 use Rattle.controller_c.proofs.image.take_apart.Tie as tie
 
@@ -18,23 +21,43 @@ word-requires c κs = search needs
 word-requires-2 : tie.Need-word-requires-2
 word-requires-2 c κs = search needs
 
-shared-slice-read-t8 : tie.Need-shared-slice-read-t8
-shared-slice-read-t8 c = search needs
+shared-slice-read-t14 : tie.Need-shared-slice-read-t14
+shared-slice-read-t14 c = search needs
 
-shared-slice-read-t10 : tie.Need-shared-slice-read-t10
-shared-slice-read-t10 c = search needs
+shared-slice-read-t16 : tie.Need-shared-slice-read-t16
+shared-slice-read-t16 c = search needs
 
-shared-slice-read-t12 : tie.Need-shared-slice-read-t12
-shared-slice-read-t12 c = search needs
+shared-slice-read-t18 : tie.Need-shared-slice-read-t18
+shared-slice-read-t18 c = search needs
 
 word-requires-3 : tie.Need-word-requires-3
 word-requires-3 c κs = search needs
 
-shared-slice-read-t15 : tie.Need-shared-slice-read-t15
-shared-slice-read-t15 c = search needs
+shared-slice-read-t21 : tie.Need-shared-slice-read-t21
+shared-slice-read-t21 c = search needs
 
 returns : tie.Need-returns
-returns c = cc
+returns c =
+    let king = c .before in
+    let round = king .before .before .before .before in
+    let own = round .before in
+    let echoes = own .before in
+    let candidates = echoes .before .before in
+    let heard = candidates .before .before in
+    let b = now (heard .before .before .before .args .image) in
+    λ i.
+    record {
+      own = own .word .ensures i;
+      round = round .word2 .ensures i;
+      bit = getD b bitAt 0;
+      said = getD b saidAt 0;
+      strong = getD b strongAt 0;
+      king = king .word3 .ensures i;
+      decision = getD b decisionAt 0;
+      heard = heard .take-list .ensures i;
+      candidates = candidates .take-list2 .ensures i;
+      echoes = echoes .take-list3 .ensures i;
+    }
 
 pub take-apart-spec : {M : Type 1} → statement M
 take-apart-spec =
@@ -45,9 +68,9 @@ take-apart-spec =
     take-list-requires-3
     word-requires
     word-requires-2
-    shared-slice-read-t8
-    shared-slice-read-t10
-    shared-slice-read-t12
+    shared-slice-read-t14
+    shared-slice-read-t16
+    shared-slice-read-t18
     word-requires-3
-    shared-slice-read-t15
+    shared-slice-read-t21
     returns)
