@@ -1,6 +1,7 @@
 -- Words for numbers with their counts, one key each: number * 128 + count. They are no part of the rules.
 --     counted x l              the count of x in the keys l
 --     RisingKeys l             the numbers of the keys l rise strictly, and fit 32 bits
+--     Low m l                  each of the keys l has a count of at most m
 --     merged l m               the keys of l and m in one rising list, the counts of equal numbers added
 --     Slim l m                 no number's counts in l and m add up to 128
 --     Mergeable s d a b e t    what merging finds: the parts of s from a to b and from b to e, and room for both in d from t on
@@ -39,6 +40,9 @@ counted x (k ∷ l) = cond (eqb (k / 128) x) (k % 128) 0 + counted x l
 abbrev pub RisingKeys : List ℕ → Type 0
 RisingKeys [] = Unit {0}
 RisingKeys (k ∷ l) = (k / 128 < 4294967296) × ((y : ℕ) → In y l → k / 128 < y / 128) × RisingKeys l
+
+abbrev pub Low : ℕ → List ℕ → Type 0
+Low m l = (k : ℕ) → In k l → k % 128 ≤ m
 
 -- x and what stands behind it, which f merges, with m
 unfoldable pub mergedFrom : ℕ → (List ℕ → List ℕ) → List ℕ → List ℕ

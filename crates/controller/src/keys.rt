@@ -98,7 +98,7 @@ fn length_at(lens: &[usize; MAX_NUMBERS], len: usize, j: usize) -> usize
 
 // Merges the runs two by two into `dst`, and puts the lengths of those that come of it into `halves`. Both lists of lengths are used as slices: of a
 // slice it is known how long it is, of a lent array it is not.
-fn halve(
+pub(crate) fn halve(
     src: &[u64],
     lens: &[usize; MAX_NUMBERS],
     runs: Runs,

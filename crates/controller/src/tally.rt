@@ -1,5 +1,6 @@
 // The tally of the received lists, and what it makes of echoes and candidates. The lists rise, so that merging them, the counts of equal numbers
-// added, leaves each number once with its count, least number first.
+// added, leaves each number once with its count, least number first. Where a part of the merging shows that no number can reach a third, the rest is
+// left out.
 ghost use mathlib.Core.Bool.{true, false, cond};
 ghost use mathlib.Core.List.{List, []};
 ghost use mathlib.Core.Option.{some};
@@ -16,9 +17,10 @@ ghost use Rattle.controller.specs.Lists.{mem, Rising};
 ghost use Rattle.controller.specs.State.{view, soundList};
 ghost use Rattle.controller.specs.Received.{readIn, listIn, heardAfter};
 ghost use Rattle.controller.specs.Rotation.{allLists};
-ghost use Rattle.controller.specs.Keys.{RisingKeys, numbersIn, reaching, newTo, joinedBy, PutsKeys, Keeps, Joinable};
+ghost use Rattle.controller.specs.Keys.{RisingKeys, Low, Keyed, numbersIn, reaching, newTo, joinedBy, PutsKeys, Keeps, Joinable};
 ghost use Rattle.controller.specs.Storage.{below, Ready, listUnder, Alike, Fillable, Tallies, Sortable, SortsOut, GrowsLists};
 use crate::keys::Runs;
+use crate::keys::halve;
 use crate::keys::merge;
 use crate::keys::merge_all;
 use crate::state::Fields;
@@ -405,7 +407,65 @@ fn no_room() -> Lists
     }
 }
 
-// Echoes and candidates after the tray, with `a` and `b` to work in.
+// The larger of two counts. A choice of its own, so that it costs no jump.
+fn larger(x: u64, y: u64) -> u64
+    ensures { λ r. ⌜ r ≡ cond (ltb x y) y x ⌝ }
+{
+    if x < y { y } else { x }
+}
+
+// The largest count among the first `end` keys.
+fn top_count(keys: &[u64], end: usize) -> u64
+    requires { ⌜ end ≤ length (now keys) ⌝ }
+    ensures { λ r. ⌜ (r < 128) × Low r (take end (now (keys .entry))) ⌝ }
+{
+    let mut top = 0;
+    let mut i = 0;
+    while i < end {
+        top = larger(top, keys[i] % 128);
+        i += 1;
+    }
+    top
+}
+
+// Echoes and candidates from the lists, which are runs of keys in `a`. A number stands at most once in each run, so that in all of them it counts at
+// most the largest count times how many runs there are. Where even that is less than a third, echoes become empty and the candidates stay, and the runs
+// need no further merging. `b` is room to work in.
+fn sift(
+    fields: Fields,
+    candidates: &mut [u32; MAX_NUMBERS],
+    echoes: &mut [u32; MAX_NUMBERS],
+    a: &mut [u64],
+    b: &mut [u64],
+    lens: &mut [usize; MAX_NUMBERS],
+    runs: Runs,
+) -> Lists
+    requires { ⌜ Keyed (now a) runs (now lens) × (maxNumbers < length (now a)) × (length (now b) ≡ length (now a)) × (soundList (record { len = fields .candidates; at = now candidates }) ≡ true) × (fields .heard ≤ maxNumbers) ⌝ }
+    ensures { λ r. ⌜ ((h t f : List ℕ) → Ready (stateOf fields h (now (candidates .entry)) (now (echoes .entry))) t f → Tallies (stateOf fields h [] (now (echoes .entry))) t (now (a .entry)) runs (now (lens .entry)) → GrowsLists (stateOf fields h (now (candidates .entry)) (now (echoes .entry))) t r (now (candidates .exit)) (now (echoes .exit))) ⌝ }
+{
+    let top = top_count(a, runs.end);
+    if 3 * (runs.len as u64) * top < fields.heard as u64 {
+        put_numbers(a, 0, echoes);
+        return Lists {
+            fits: true,
+            echoes: 0,
+            candidates: fields.candidates,
+        };
+    }
+    let end = merge_all(a, b, lens, runs);
+    sort_out(
+        a,
+        end,
+        fields.heard,
+        candidates,
+        fields.candidates,
+        echoes,
+        b,
+    )
+}
+
+// Echoes and candidates after the tray, with `a` and `b` to work in. The lists are merged four by four before `sift` looks whether any number can reach
+// a third: where most of their numbers differ, that is all the merging there is.
 fn grow_in(
     fields: Fields,
     heard: &[u32; MAX_NUMBERS],
@@ -420,17 +480,11 @@ fn grow_in(
     ensures { λ r. ⌜ GrowsLists (stateOf fields (now (heard .entry)) (now (candidates .entry)) (now (echoes .entry))) (now (tray .entry)) r (now (candidates .exit)) (now (echoes .exit)) ⌝ }
 {
     let mut lens = [0; MAX_NUMBERS];
+    let mut halves = [0; MAX_NUMBERS];
     let runs = fill(fields, heard, echoes, tray, firsts, a, &mut lens);
-    let end = merge_all(a, b, &mut lens, runs);
-    sort_out(
-        a,
-        end,
-        fields.heard,
-        candidates,
-        fields.candidates,
-        echoes,
-        b,
-    )
+    let half = halve(a, &lens, runs, b, &mut halves);
+    let quarter = halve(b, &halves, half, a, &mut lens);
+    sift(fields, candidates, echoes, a, b, &mut lens, quarter)
 }
 
 // How many numbers the frame of an entry can list; 0 where there is no such entry.

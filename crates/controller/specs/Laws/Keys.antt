@@ -1,23 +1,25 @@
 -- Laws of numbers and the keys that stand for them: keys made of a list, keys kept, numbers taken from keys.
 use Prim.Native.Nat.{ℕ, zero, suc, _+_, _*_, _-_, _/_, _%_, _≤_, _<_}
 use mathlib.Core.Bool.{Bool, true, false, cond}
-use mathlib.Core.List.{List, [], _∷_, _++_, List·Memᴰ·head, List·Memᴰ·tail, List·Memᴰ·cases-cons, List·Memᴰ·not-nil, append-nil}
+use mathlib.Core.List.{List, [], _∷_, _++_, List·Memᴰ·head, List·Memᴰ·tail, List·Memᴰ·cases-cons, List·Memᴰ·not-nil, List·Memᴰ·append-cases, Memᴰ·append-left, Memᴰ·append-right, append-nil}
 use mathlib.Core.Logic.{inl, inr, _≢_}
 use mathlib.Core.Path.{_≡_, refl, sym, ap, _∙_}
-use native.Mathlib.Decide.{ℕ-discrete}
+use native.Mathlib.Decide.{ℕ-discrete, decLt}
+use native.Mathlib.Nat.{mul-le-mul-right}
 use native.Mathlib.Numerals.{add-one}
 use native.Mathlib.Omega.{arith}
 use borrow.Author.Tests.{eqb-true, eq-eqb, ne-eqb}
 use lib.Dec.{eqb}
-use lib.ListN.{length, getD, replicate, take, set, length-set}
+use lib.ListN.{length, getD, replicate, take, drop, set, length-set, length-take, take-append-drop}
 use lib.Seq.{set-at, take-suc, slice, slice-cons, length-take-le, append-snoc}
 use Rattle.controller.specs.Lists.{In, mem, keep, Rising}
 use Rattle.wire.specs.Limits.{maxNumbers}
 use Rattle.wire.specs.Numbers.{stored}
 use Rattle.wire.specs.declared.frame.Numbers.{Numbers}
-use Rattle.controller.specs.Keys.{counted, RisingKeys, keysOf, numbersIn, Keeps}
+use Rattle.controller.specs.Keys.{counted, RisingKeys, Low, Cut, Keyed, keysOf, numbersIn, Keeps}
+use Rattle.controller.specs.declared.keys.Runs.{Runs}
 use Rattle.controller.specs.Laws.Lists.{true-or-false, out-mem, keep-in}
-use Rattle.controller.specs.Laws.Merge.{every-cons, one-more, slice-none, slice-set}
+use Rattle.controller.specs.Laws.Merge.{counted-append, every-cons, one-more, slice-none, slice-set}
 
 -- ---- numbers and their keys
 
@@ -98,6 +100,41 @@ counted-some x (y ∷ l) h = elim (true-or-false (eqb (y / 128) x)) [
   | inl t ↦ (y, List·Memᴰ·head refl, eqb-true (y / 128) x t)
   | inr t ↦ let r = counted-some x l (omega (arith, rw t at h)) in (r .0, List·Memᴰ·tail (r .1), r .2)
 ]
+
+-- ---- how high a number's count can be, where each key's is at most m
+
+-- one key more
+pub low-more : (m n i : ℕ) (l : List ℕ) → i < length l → Low m (take i l) → m ≤ n → getD l i 0 % 128 ≤ n → Low n (take (i + 1) l)
+low-more m n i l lt low le last k j =
+    elim (List·Memᴰ·append-cases (take i l) (rw (add-one, take-suc l i 0 lt) at j)) [
+      | inl p ↦ omega (arith, low k p)
+      | inr p ↦ elim (List·Memᴰ·cases-cons p) [ inl e ↦ rw e last | inr q ↦ absurd (List·Memᴰ·not-nil q) ]
+    ]
+
+-- a run that rises has a number once
+rising-counted : (m x : ℕ) (l : List ℕ) → RisingKeys l → Low m l → counted x l ≤ m
+rising-counted m x l up low = elim (decLt 0 (counted x l)) [
+  | yes h ↦
+      let r = counted-some x l h in
+      let e : counted x l ≡ r .0 % 128 = rw (r .2) at (key-count (r .0) l up (r .1)) in
+      omega (arith, low (r .0) (r .1))
+  | no h ↦ omega arith
+]
+
+cut-counted : (m x : ℕ) (ns l : List ℕ) → Cut ns l → Low m l → counted x l ≤ length ns * m
+cut-counted m x [] l cut low = rw cut (omega arith)
+cut-counted m x (n ∷ ns) l cut low =
+    let whole : take n l ++ drop n l ≡ l = take-append-drop n l in
+    let first = rising-counted m x (take n l) (cut .1) (λ k i. low k (rw whole at (Memᴰ·append-left (drop n l) i))) in
+    let rest = cut-counted m x ns (drop n l) (cut .2) (λ k i. low k (rw whole at (Memᴰ·append-right (take n l) i))) in
+    let sum : counted x l ≡ counted x (take n l) + counted x (drop n l) = ap (λ (r : List ℕ). counted x r) (sym whole) ∙ counted-append x (take n l) (drop n l) in
+    omega (arith, first, rest, sum)
+
+-- so runs have it at most as often as they are many
+pub keyed-counted : {s : List ℕ} {r : Runs} {at : List ℕ} (m x : ℕ) → Keyed s r at → Low m (take (r .end) s) → counted x (take (r .end) s) ≤ r .len * m
+keyed-counted {s} {r} {at} m x k low =
+    let few : length (take (r .len) at) ≤ r .len = omega (arith, length-take (r .len) at) in
+    omega (arith, cut-counted m x (take (r .len) at) (take (r .end) s) (k .cut) low, mul-le-mul-right m few)
 
 -- ---- keys that are kept
 

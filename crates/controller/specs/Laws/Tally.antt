@@ -1,6 +1,6 @@
 -- Laws of the work on the tally: the received lists as keys count each number as `tally` does, and the lists that such keys give are the rules'.
 use Prim.Native.Nat.{ℕ, zero, suc, _+_, _*_, _-_, _/_, _%_, _≤_, _<_}
-use mathlib.Core.Bool.{Bool, true, false, not, cond}
+use mathlib.Core.Bool.{Bool, true, false, not, cond, true≢false}
 use mathlib.Core.List.{List, [], _∷_, _++_, List·Memᴰ·head, List·Memᴰ·tail, List·Memᴰ·not-nil, Memᴰ·cast, List·Memᴰ·cases-cons}
 use mathlib.Core.Logic.{_⊎_, inl, inr, _≢_}
 use mathlib.Core.Option.{Option, some, none}
@@ -19,17 +19,17 @@ use Rattle.wire.specs.Numbers.{stored, listed}
 use Rattle.wire.specs.Tray.{Entry, entries, place, bytesAt}
 use Rattle.wire.specs.Words.{Below}
 use Rattle.controller.specs.Lists.{In, mem, countIf, Rising}
-use Rattle.controller.specs.Keys.{counted, RisingKeys, merged, Slim, Cut, OneRun, keysOf, numbersIn, reaching, newTo, joinedBy, PutsKeys}
+use Rattle.controller.specs.Keys.{counted, RisingKeys, Low, merged, Slim, Cut, OneRun, keysOf, numbersIn, reaching, newTo, joinedBy, PutsKeys}
 use Rattle.controller.specs.State.{View, view, sound, soundList}
 use Rattle.controller.specs.Fields.{stateOf}
 use Rattle.controller.specs.Received.{frameOf, heardAfter, readIn, received, listIn}
 use Rattle.controller.specs.Rotation.{tally, allLists, echoed, candidatesAfter}
 use Rattle.controller.specs.Storage.{listUnder, contentUnder, Tallies, echoesIn, candidatesIn, SortsOut, GrowsLists}
-use Rattle.controller.specs.Laws.Keys.{keys-length, keys-every, keys-rise, keys-counted, numbers-in, numbers-from, numbers-rise, key-count, counted-some, keep-keys, keep-counted, numbers-length}
+use Rattle.controller.specs.Laws.Keys.{keys-length, keys-every, keys-rise, keys-counted, numbers-in, numbers-from, numbers-rise, key-count, counted-some, keyed-counted, keep-keys, keep-counted, numbers-length}
 use Rattle.controller.specs.Laws.Merge.{counted-append, merged-counts, merged-every, cut-more, merged-none, merged-all, merged-both, merged-first, merged-second, slim-rest, slim-heads}
 use Rattle.controller.specs.Laws.Lists.{true-or-false, in-mem, out-mem, mem-out, in-or-not, rising-gives, rising-same, count-length, count-run, keep-in}
 use Rattle.controller.specs.Laws.Thirds.{third-is, two-thirds-is}
-use Rattle.controller.specs.Laws.State.{SoundList, Sound, sound-list-test, sound-gives, sound-stored}
+use Rattle.controller.specs.Laws.State.{SoundList, Sound, sound-list-gives, sound-list-test, sound-gives, sound-stored}
 use Rattle.controller.specs.Laws.Received.{heard-some, received-allowed}
 use Rattle.controller.specs.Laws.Rotation.{echoed-in, echoed-rising, candidates-in, candidates-rising}
 use Rattle.controller.specs.declared.keys.Runs.{Runs}
@@ -399,6 +399,52 @@ sorted-grows g h c e b {f = f} {end = end} test size few all one sorts =
       echoes = λ fits. sorts .echoes fits ∙ ap stored echoes;
       candidates = λ fits. sorts .candidates fits ∙ ap stored candidates;
       kept = sorts .kept;
+    }
+
+-- where no number reaches a third, none is echoed and no candidate joins
+module _ (v : View) (es : List Entry)
+    (h : Sound v)
+    (under : (x : ℕ) → 3 * tally v es x < length (heardAfter v es))
+  where
+    none-echoed : echoed v es ≡ []
+    none-echoed =
+        let pos = heard-some v es h in
+        rising-same (echoed v es) [] (echoed-rising v es) tt
+        (λ x i. absurd (omega (arith, third-is (tally v es x) (length (heardAfter v es)) .0 (echoed-in v es pos .0 i .0), under x)))
+        (λ x i. absurd (List·Memᴰ·not-nil i))
+
+    none-joins : candidatesAfter v es ≡ v .candidates
+    none-joins =
+        let pos = heard-some v es h in
+        rising-same (candidatesAfter v es) (v .candidates) (candidates-rising v es (h .candidates .rises)) (h .candidates .rises)
+        (λ x i. elim (candidates-in v es pos .0 i) [
+          | inl j ↦ j
+          | inr t ↦ absurd (omega (arith, two-thirds-is (tally v es x) (length (heardAfter v es)) .0 t, under x))
+        ])
+        (λ x i. candidates-in v es pos .1 (inl i))
+
+-- so it is where the keys of the runs have such low counts
+pub low-grows : (g : Fields) (h c e b : List ℕ) {k at : List ℕ} {runs : Runs} {e₁ : List ℕ} (m : ℕ) → sound (stateOf g h c e) ≡ true
+    → g .heard ≡ length (heardAfter (view (stateOf g h c e)) (entries b)) → Tallies (stateOf g h [] e) b k runs at
+    → Low m (take (runs .end) k) → 3 * runs .len * m < g .heard → e₁ ≡ (stored []) .at
+    → GrowsLists (stateOf g h c e) b (record { fits = true; echoes = 0; candidates = g .candidates }) c e₁
+low-grows g h c e b m test size all low few places =
+    let s = stateOf g h c e in
+    let v = view s in
+    let es = entries b in
+    let tests = sound-list-gives (s .candidates) (candidates-tests s test) in
+    let under : (x : ℕ) → 3 * tally v es x < length (heardAfter v es) =
+    λ x. omega (arith, keyed-counted m x (all .keyed) low, all .counts x, tally-alone g h c e es x, few, size) in
+    let echoes = none-echoed v es (sound-gives s test) under in
+    let candidates = none-joins v es (sound-gives s test) under in
+    let one : leb (length (candidatesAfter v es)) maxNumbers ≡ true = le-leb (length (candidatesAfter v es)) maxNumbers (omega (arith, ap length candidates, tests .list .short)) in
+    let two : leb (length (echoed v es)) maxNumbers ≡ true = le-leb (length (echoed v es)) maxNumbers (omega (arith, ap length echoes)) in
+    record {
+      fits = rw (one, two);
+      few = omega (arith, tests .used, tests .list .short);
+      echoes = λ fits. (λ i. record { len = 0; at = places i }) ∙ ap stored (sym echoes);
+      candidates = λ fits. sym (tests .back) ∙ ap stored (sym candidates);
+      kept = λ fits. absurd (true≢false fits);
     }
 
 -- ---- how many there can be

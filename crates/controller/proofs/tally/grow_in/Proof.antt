@@ -1,20 +1,27 @@
--- `controller::tally::grow_in` meets its contract: the merged keys count as the received lists do, so that what is sorted out of them is the rules'.
+-- `controller::tally::grow_in` meets its contract: the runs merged two by two, twice, count as the received lists do, so that what is sifted from them is the rules'.
+use mathlib.Core.Path.{_∙_}
 use native.Mathlib.Omega.{arith}
 use borrow.Author.Needs.{needs}
 use denote.Ref.{now}
 use Rattle.controller.specs.Fields.{stateOf}
 use Rattle.controller.specs.declared.state.State.{State}
-use Rattle.controller.specs.Laws.Ready.{ready-size, ready-few}
-use Rattle.controller.specs.Laws.Tally.{candidates-tests, sorted-grows}
+use Rattle.controller.specs.Laws.Ready.{ready-few}
+use Rattle.controller.specs.Laws.Tally.{candidates-tests}
 use Rattle.controller.proofs.tally.grow_in.Statement.{statement}
 use Rattle.controller.proofs.tally.grow_in.Tie as tie
 
--- where the keys are filled in, and what the function was given
-abbrev filled : tie.After-merge-all → tie.After-fill
-filled c = c .before .before .before .before .before .before
+-- where the runs are quarters, where they are halves, where they are filled in, and what the function was given
+abbrev quarters : tie.After-lens4 → tie.After-a2
+quarters c = c .before .before .before .before .before .before
 
-abbrev given : tie.After-fill → tie.Start
-given c = c .before .before .before .before .before .before .before
+abbrev halves : tie.After-a2 → tie.After-b
+halves c = c .before .before .before .before .before .before .before
+
+abbrev filled : tie.After-b → tie.After-a
+filled c = c .before .before .before .before .before .before .before
+
+abbrev given : tie.After-a → tie.Start
+given c = c .before .before .before .before .before .before .before .before
 
 abbrev state : tie.Start → State
 state c = stateOf (c .args .fields) (now (c .args .heard)) (now (c .args .candidates)) (now (c .args .echoes))
@@ -24,43 +31,51 @@ fill-requires c κs =
     let start = c .before .before .before .before .before .before in
     record { candidates = now (start .args .candidates); ready = start .pre .0; room = start .pre .1 }
 
-merge-all-requires : tie.Need-merge-all-requires
-merge-all-requires c κs = (c .before .before .before .before .before .fill .ensures .keyed, search needs)
+halve-requires : tie.Need-halve-requires
+halve-requires c κs = search needs
 
-sort-out-requires : tie.Need-sort-out-requires
-sort-out-requires c κs =
-    let merged = c .before .before .before .before .before .before .before .before in
-    let all = filled merged .fill .ensures in
-    let one = merged .merge-all .ensures in
-    let start = given (filled merged) in
-    let ready = start .pre .0 in
-    record {
-      inside = one .inside;
-      room = search needs;
-      same = search needs;
-      rises = one .rises;
-      slim = λ x. omega (arith, one .counts x, all .keyed .slim x);
-      were = candidates-tests (state start) (ready .sound);
-      lists = ready-few ready;
-    }
+halve-requires-2 : tie.Need-halve-requires-2
+halve-requires-2 c κs =
+    let two = c .before .before .before .before .before in
+    let one = filled two in
+    (two .before .halve .ensures .keyed, omega (arith, two .b .given, one .a .given, given one .pre .3))
+
+sift-requires : tie.Need-sift-requires
+sift-requires c κs =
+    let four = quarters c in
+    let two = halves four in
+    let one = filled two in
+    let start = given one in
+    let ready = start .pre .0 in (
+      four .before .halve2 .ensures .keyed,
+      omega (arith, four .a2 .given, one .a .given, start .pre .2),
+      omega (arith, four .a2 .given, two .b .given, one .a .given, start .pre .3),
+      candidates-tests (state start) (ready .sound),
+      ready-few ready,
+    )
 
 same-length : tie.Need-same-length
-same-length c = search needs
+same-length c =
+    let end = c .before .before .before in
+    let four = quarters (end .before .before) in
+    omega (arith, end .a3 .given, four .a2 .given, filled (halves four) .a .given)
 
 same-length-2 : tie.Need-same-length-2
 same-length-2 c = search needs
 
 returns : tie.Need-returns
 returns c =
-    let sorted = c .before .before .before .before in
-    let merged = sorted .before .before .before .before .before .before .before .before .before in
-    let start = given (filled merged) in
+    let sifted = c .before .before .before .before in
+    let four = quarters (sifted .before) in
+    let two = halves four in
+    let one = filled two in
+    let start = given one in
     let a = start .args in
-    let ready = start .pre .0 in
-    sorted-grows (a .fields) (now (a .heard)) (now (a .candidates)) (now (a .echoes)) (now (a .tray)) (ready .sound) (ready-size ready) (ready-few ready)
-    (filled merged .fill .ensures) (merged .merge-all .ensures) (sorted .sort-out .ensures)
+    let last = four .before .halve2 .ensures in
+    sifted .sift .ensures (now (a .heard)) (now (a .tray)) (now (a .firsts)) (start .pre .0)
+    (record { keyed = last .keyed; counts = λ x. last .counts x ∙ two .before .halve .ensures .counts x ∙ one .before .fill .ensures .counts x })
 
 pub grow-in-spec : {M : Type 1} → statement M
 grow-in-spec =
     tie.close
-    (tie.spec fill-requires merge-all-requires sort-out-requires same-length same-length-2 returns)
+    (tie.spec fill-requires halve-requires halve-requires-2 sift-requires same-length same-length-2 returns)
