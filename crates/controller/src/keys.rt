@@ -137,6 +137,9 @@ pub(crate) fn merge_all(
     requires { ⌜ Keyed (now a) runs (now lens) × (length (now b) ≡ length (now a)) ⌝ }
     ensures { λ r. ⌜ OneRun (now (a .entry)) runs (now (a .exit)) r ⌝ }
 {
+    if runs.len <= 1 {
+        return runs.end;
+    }
     let mut halves = [0; MAX_NUMBERS];
     let mut r = runs;
     let mut len = r.len;

@@ -1,11 +1,13 @@
 -- `controller::keys::merge_all` meets its contract: each turn leaves fewer runs, which count as before; one run, or none, rises.
-use Prim.Native.Nat.{ℕ}
+use Prim.Native.Nat.{ℕ, _≤_}
+use mathlib.Core.List.{List}
 use mathlib.Core.Path.{_≡_, refl, _∙_}
 use native.Mathlib.Omega.{arith}
 use borrow.Author.Needs.{needs}
 use lib.ListN.{length, take, length-take}
-use Rattle.controller.specs.Keys.{counted, Keyed}
+use Rattle.controller.specs.Keys.{counted, RisingKeys, Keyed}
 use Rattle.controller.specs.Laws.Merge.{cut-one}
+use Rattle.controller.specs.declared.keys.Runs.{Runs}
 use Rattle.controller.proofs.keys.merge_all.Statement.{statement}
 use Rattle.controller.proofs.keys.merge_all.Tie as tie
 
@@ -24,7 +26,7 @@ abbrev halved : tie.After-halve-arg6 Inv-loop μ-loop → tie.After-halve Inv-lo
 halved c = c .before .before .before .before .before .before
 
 loop-holds : tie.Need-loop-holds Inv-loop μ-loop
-loop-holds c = (refl, refl, refl, c .before .before .pre .0, λ x. refl)
+loop-holds c = (refl, refl, refl, c .before .before .before .before .pre .0, λ x. refl)
 
 halve-requires : tie.Need-halve-requires Inv-loop μ-loop
 halve-requires c κs = (turn c .before .loop .inv .3, search needs)
@@ -51,15 +53,18 @@ same-length c = search needs
 same-length-2 : tie.Need-same-length-2 Inv-loop μ-loop
 same-length-2 c = search needs
 
+-- one run, or none, rises
+one : (a at : List ℕ) (r : Runs) → Keyed a r at → r .len ≤ 1 → RisingKeys (take (r .end) a)
+one a at r k few = cut-one (take (r .len) at) (take (r .end) a) (omega (arith, few, length-take (r .len) at)) (k .cut)
+
 returns : tie.Need-returns Inv-loop μ-loop
-returns c =
+returns c = let k = c .before .before .before .before .pre .0 in record { inside = k .inside; rises = one _ _ _ k (c .if1 .taken); counts = λ x. refl }
+
+returns-2 : tie.Need-returns-2 Inv-loop μ-loop
+returns-2 c =
     let v = c .before .loop in
     let k = v .inv .3 in
-    record {
-      inside = k .inside;
-      rises = cut-one (take (v .r .len) (v .lens)) (take (v .r .end) (v .a)) (omega (arith, c .loop-test .left, v .inv .0, length-take (v .r .len) (v .lens))) (k .cut);
-      counts = v .inv .4;
-    }
+    record { inside = k .inside; rises = one (v .a) (v .lens) (v .r) k (omega (arith, c .loop-test .left, v .inv .0)); counts = v .inv .4 }
 
 pub merge-all-spec : {M : Type 1} → statement M
 merge-all-spec =
@@ -67,6 +72,7 @@ merge-all-spec =
     (tie.spec
     Inv-loop
     μ-loop
+    returns
     loop-holds
     halve-requires
     halve-requires-2
@@ -74,4 +80,4 @@ merge-all-spec =
     loop-again
     same-length
     same-length-2
-    returns)
+    returns-2)
