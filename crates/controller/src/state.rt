@@ -28,14 +28,15 @@ pub struct Answer {
     pub length: usize,
 }
 
-// A state but for the places of its lists, which are lent beside it: a call that works in place copies no list.
+// A state but for the places of its lists, which are lent beside it: a call that works in place copies no list. The order leaves no gap between the
+// fields, so that they are copied as whole words.
 pub struct Fields {
     pub own: u32,
     pub round: u32,
+    pub king: u32,
     pub bit: u8,
     pub said: u8,
     pub strong: u8,
-    pub king: u32,
     pub decision: u8,
     // How many numbers each list has.
     pub heard: usize,
@@ -43,9 +44,9 @@ pub struct Fields {
     pub echoes: usize,
 }
 
-// What a call in place returns: the refusal, 0 for none; the fields after the call; the length of the frame written, 0 when refused.
+// What a call in place returns: the fields after the call; the length of the frame written, 0 when refused; the refusal, 0 for none.
 pub struct Worked {
-    pub refusal: u8,
     pub fields: Fields,
     pub length: usize,
+    pub refusal: u8,
 }

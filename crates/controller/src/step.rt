@@ -23,8 +23,8 @@ use wire::limits::MAX_NUMBERS;
 
 // The fields that a step makes; `fits` is false where candidates or echoes would be more than 64.
 pub(crate) struct Made {
-    pub fits: bool,
     pub fields: Fields,
+    pub fits: bool,
 }
 
 // (c): the fields `next`, whose lists and bit are made, with the decision and the king that follow from the decision `was` before the step.

@@ -36,9 +36,9 @@ use wire::tray::part_of;
 
 // The lengths of echoes and candidates after a step; `fits` is false where one of them would have more than 64 numbers.
 pub(crate) struct Lists {
-    pub fits: bool,
     pub echoes: usize,
     pub candidates: usize,
+    pub fits: bool,
 }
 
 // Puts the numbers of a list, each with a count, into `keys` from `to` on, and returns the place behind them. The list is read as a slice: of that it is
