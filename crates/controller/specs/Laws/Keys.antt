@@ -11,7 +11,7 @@ use native.Mathlib.Omega.{arith}
 use borrow.Author.Tests.{eqb-true, eq-eqb, ne-eqb}
 use lib.Dec.{eqb}
 use lib.ListN.{length, getD, replicate, take, drop, set, length-set, length-take, take-append-drop}
-use lib.Seq.{set-at, take-suc, slice, slice-cons, length-take-le, append-snoc}
+use lib.Seq.{take-suc, slice, slice-cons}
 use Rattle.controller.specs.Lists.{In, mem, keep, Rising}
 use Rattle.wire.specs.Limits.{maxNumbers}
 use Rattle.wire.specs.Numbers.{stored}
@@ -192,20 +192,6 @@ pub keys-fit : (l : List ℕ) (i : ℕ) → RisingKeys l → i < length l → ge
 keys-fit [] i up h = absurd (omega arith)
 keys-fit (k ∷ l) zero up h = up .0
 keys-fit (k ∷ l) (suc i) up h = keys-fit l i (up .2) (omega arith)
-
-numbers-append : (l m : List ℕ) → numbersIn (l ++ m) ≡ numbersIn l ++ numbersIn m
-numbers-append [] m = refl
-numbers-append (k ∷ l) m = ap (λ (r : List ℕ). k / 128 ∷ r) (numbers-append l m)
-
--- one number more in its place
-pub numbers-step : (keys at : List ℕ) (i : ℕ) → i < length keys → i < maxNumbers → at ≡ numbersIn (take i keys) ++ replicate (maxNumbers - i) 0
-    → set at i (getD keys i 0 / 128) ≡ numbersIn (take (i + 1) keys) ++ replicate (maxNumbers - (i + 1)) 0
-numbers-step keys at i h few e =
-    let next : maxNumbers - i ≡ suc (maxNumbers - (i + 1)) = omega arith in
-    let front : List ℕ = numbersIn (take i keys) in
-    let zeros : List ℕ = replicate (maxNumbers - (i + 1)) 0 in
-    let used : length front ≡ i = numbers-length (take i keys) ∙ length-take-le i keys (omega arith) in
-    rw (e, next, set-at front 0 zeros (getD keys i 0 / 128) i used, add-one, take-suc keys i 0 h, numbers-append (take i keys) (getD keys i 0 ∷ []), append-snoc)
 
 pub numbers-stored : (l at : List ℕ) (n : ℕ) → n ≡ length l → at ≡ numbersIn l ++ replicate (maxNumbers - n) 0
     → _≡_ {A = Numbers} (record { len = n; at = at }) (stored (numbersIn l))

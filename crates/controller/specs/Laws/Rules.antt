@@ -18,7 +18,7 @@ use Rattle.controller.specs.Received.{frameOf, senders, heardAfter, rece
 use Rattle.controller.specs.Rotation.{roster, phase, tally, allLists, listed, echoed, joined, candidatesAfter, decides, kingAfter}
 use Rattle.controller.specs.Bit.{kingOpinion, bitTaken, decisionAfter, valueTwoThirds, proposalThird, proposalTwoThirds, proposal, bitAdopted, strongAfter, opinion}
 use Rattle.controller.specs.Rules.{makeRoster, makeValue, makePropose, makeTurn, next}
-use Rattle.controller.specs.Laws.Lists.{true-or-false, rising-same}
+use Rattle.controller.specs.Laws.Lists.{true-or-false, insert-all-known}
 use Rattle.controller.specs.Laws.State.{Sound}
 use Rattle.controller.specs.Laws.Received.{heard-in, heard-rising}
 use Rattle.controller.specs.Laws.Rotation.{roster-in, roster-rising, echoed-rising, echoed-positive, candidates-rising, candidates-positive}
@@ -197,10 +197,8 @@ said-bit v es e = let k : kindOf (v .round + 1) ≡ 3 = rw (next-round v es) at 
 
 -- senders that are all heard change nothing
 pub heard-known : (v : View) (es : List Entry) → Rising (v .heard) → Inside (senders es) (v .heard) → heardAfter v es ≡ v .heard
-heard-known v es up known =
-    rising-same (heardAfter v es) (v .heard) (heard-rising v es up) up
-    (λ x i. elim (heard-in v es .0 i) [ inl j ↦ known x j | inr j ↦ j ])
-    (λ x i. heard-in v es .1 (inr i))
+unfolding heardAfter
+heard-known v es up known = insert-all-known (senders es) (v .heard) up known
 
 pub heard-positive : (v : View) (es : List Entry) → Sound v → (¬ In 0 (senders es)) → (x : ℕ) → In x (heardAfter v es) → 0 < x
 heard-positive v es h z x i = elim (heard-in v es .0 i) [
