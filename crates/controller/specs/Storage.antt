@@ -10,6 +10,7 @@
 --     listUnder f e b x i      that frame's list, where f are the state's fields and e the places of its echoes
 --     Alike o b l n f j r      under each of the r numbers from place j on, of the n numbers l with their first entries f, the same bytes are received, or r is 1; o is the own number
 --     CountsBits k v es r      r has how many of those heard sent each bit in a frame of kind k
+--     listedIn s b             how many numbers the lists have in all that are received in the state s with the tray b
 --     Fillable f h e b t n     what filling in the lists finds: a state that is ready for the tray b, with room for n keys
 --     Tallies s b k r at       the keys k, in the runs r of the lengths at, count each number as the received lists do
 --     echoesIn c n l           of the keys l, counted in n lists, the numbers that reach a third and are not in c
@@ -103,10 +104,13 @@ pub record CountsBits (k : ℕ) (v : View) (es : List Entry) (r : Counts) : Type
   pub zeros : r .zeros ≡ count (says k 0) v es
   pub ones : r .ones ≡ count (says k 1) v es
 
+abbrev pub listedIn : State → List ℕ → ℕ
+listedIn s b = length (allLists (view s) (entries b) (heardAfter (view s) (entries b)))
+
 pub record Fillable (f : Fields) (h e b t : List ℕ) (n : ℕ) : Type 0 where
   pub candidates : List ℕ
   pub ready : Ready (stateOf f h candidates e) b t
-  pub room : length (allLists (view (stateOf f h candidates e)) (entries b) (heardAfter (view (stateOf f h candidates e)) (entries b))) < n
+  pub room : listedIn (stateOf f h candidates e) b < n
 
 pub record Tallies (s : State) (b k : List ℕ) (r : Runs) (at : List ℕ) : Type 0 where
   pub keyed : Keyed k r at

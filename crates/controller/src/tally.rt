@@ -14,11 +14,10 @@ ghost use Rattle.wire.specs.Frame.{content, kindOf, maxCount};
 ghost use Rattle.wire.specs.Tray.{place, bytesAt, entries};
 ghost use Rattle.controller.specs.Fields.{stateOf};
 ghost use Rattle.controller.specs.Lists.{mem, Rising};
-ghost use Rattle.controller.specs.State.{view, soundList};
-ghost use Rattle.controller.specs.Received.{readIn, listIn, heardAfter};
-ghost use Rattle.controller.specs.Rotation.{allLists};
+ghost use Rattle.controller.specs.State.{soundList};
+ghost use Rattle.controller.specs.Received.{readIn, listIn};
 ghost use Rattle.controller.specs.Keys.{RisingKeys, Low, Keyed, numbersIn, reaching, newTo, joinedBy, PutsKeys, Keeps, Joinable};
-ghost use Rattle.controller.specs.Storage.{below, Ready, listUnder, Alike, Fillable, Tallies, Sortable, SortsOut, GrowsLists};
+ghost use Rattle.controller.specs.Storage.{below, Ready, listUnder, listedIn, Alike, Fillable, Tallies, Sortable, SortsOut, GrowsLists};
 use crate::keys::Runs;
 use crate::keys::halve;
 use crate::keys::merge;
@@ -476,7 +475,7 @@ fn grow_in(
     a: &mut [u64],
     b: &mut [u64],
 ) -> Lists
-    requires { ⌜ Ready (stateOf fields (now heard) (now candidates) (now echoes)) (now tray) (now firsts) × (length (allLists (view (stateOf fields (now heard) (now candidates) (now echoes))) (entries (now tray)) (heardAfter (view (stateOf fields (now heard) (now candidates) (now echoes))) (entries (now tray)))) < length (now a)) × (maxNumbers < length (now a)) × (length (now b) ≡ length (now a)) ⌝ }
+    requires { ⌜ Ready (stateOf fields (now heard) (now candidates) (now echoes)) (now tray) (now firsts) × (listedIn (stateOf fields (now heard) (now candidates) (now echoes)) (now tray) < length (now a)) × (maxNumbers < length (now a)) × (length (now b) ≡ length (now a)) ⌝ }
     ensures { λ r. ⌜ GrowsLists (stateOf fields (now (heard .entry)) (now (candidates .entry)) (now (echoes .entry))) (now (tray .entry)) r (now (candidates .exit)) (now (echoes .exit)) ⌝ }
 {
     let mut lens = [0; MAX_NUMBERS];
@@ -506,7 +505,7 @@ fn most_listed(
     firsts: &[usize; MAX_NUMBERS],
 ) -> usize
     requires { ⌜ (fields .heard ≤ maxNumbers) × (fields .echoes ≤ maxNumbers) ⌝ }
-    ensures { λ r. ⌜ ((c e : List ℕ) → Ready (stateOf fields (now (heard .entry)) c e) (now (tray .entry)) (now (firsts .entry)) → length (allLists (view (stateOf fields (now (heard .entry)) c e)) (entries (now (tray .entry))) (heardAfter (view (stateOf fields (now (heard .entry)) c e)) (entries (now (tray .entry))))) ≤ r) ⌝ }
+    ensures { λ r. ⌜ ((c e : List ℕ) → Ready (stateOf fields (now (heard .entry)) c e) (now (tray .entry)) (now (firsts .entry)) → listedIn (stateOf fields (now (heard .entry)) c e) (now (tray .entry)) ≤ r) ⌝ }
 {
     let mut total = 0;
     let mut j = 0;
@@ -521,19 +520,19 @@ fn most_listed(
     total
 }
 
-// Echoes and candidates after the tray. Short lists need little room, which is quick to clear.
-pub(crate) fn grow(
+// The same, with room of its own for `most` numbers, which are fewer than 264. Little room is quick to clear.
+fn grow_few(
     fields: Fields,
     heard: &[u32; MAX_NUMBERS],
     candidates: &mut [u32; MAX_NUMBERS],
     echoes: &mut [u32; MAX_NUMBERS],
     tray: &[u8],
     firsts: &[usize; MAX_NUMBERS],
+    most: usize,
 ) -> Lists
-    requires { ⌜ Ready (stateOf fields (now heard) (now candidates) (now echoes)) (now tray) (now firsts) ⌝ }
+    requires { ⌜ Ready (stateOf fields (now heard) (now candidates) (now echoes)) (now tray) (now firsts) × (listedIn (stateOf fields (now heard) (now candidates) (now echoes)) (now tray) ≤ most) × (most < 264) ⌝ }
     ensures { λ r. ⌜ GrowsLists (stateOf fields (now (heard .entry)) (now (candidates .entry)) (now (echoes .entry))) (now (tray .entry)) r (now (candidates .exit)) (now (echoes .exit)) ⌝ }
 {
-    let most = most_listed(fields, heard, tray, firsts);
     if most < 72 {
         let mut a = [0u64; 72];
         let mut b = [0u64; 72];
@@ -547,7 +546,7 @@ pub(crate) fn grow(
             &mut a,
             &mut b,
         )
-    } else if most < 264 {
+    } else {
         let mut a = [0u64; 264];
         let mut b = [0u64; 264];
         grow_in(
@@ -560,7 +559,23 @@ pub(crate) fn grow(
             &mut a,
             &mut b,
         )
-    } else if most < 1032 {
+    }
+}
+
+// The same, for more numbers.
+fn grow_many(
+    fields: Fields,
+    heard: &[u32; MAX_NUMBERS],
+    candidates: &mut [u32; MAX_NUMBERS],
+    echoes: &mut [u32; MAX_NUMBERS],
+    tray: &[u8],
+    firsts: &[usize; MAX_NUMBERS],
+    most: usize,
+) -> Lists
+    requires { ⌜ Ready (stateOf fields (now heard) (now candidates) (now echoes)) (now tray) (now firsts) × (listedIn (stateOf fields (now heard) (now candidates) (now echoes)) (now tray) ≤ most) ⌝ }
+    ensures { λ r. ⌜ GrowsLists (stateOf fields (now (heard .entry)) (now (candidates .entry)) (now (echoes .entry))) (now (tray .entry)) r (now (candidates .exit)) (now (echoes .exit)) ⌝ }
+{
+    if most < 1032 {
         let mut a = [0u64; 1032];
         let mut b = [0u64; 1032];
         grow_in(
@@ -586,5 +601,25 @@ pub(crate) fn grow(
             &mut a,
             &mut b,
         )
+    }
+}
+
+// Echoes and candidates after the tray.
+pub(crate) fn grow(
+    fields: Fields,
+    heard: &[u32; MAX_NUMBERS],
+    candidates: &mut [u32; MAX_NUMBERS],
+    echoes: &mut [u32; MAX_NUMBERS],
+    tray: &[u8],
+    firsts: &[usize; MAX_NUMBERS],
+) -> Lists
+    requires { ⌜ Ready (stateOf fields (now heard) (now candidates) (now echoes)) (now tray) (now firsts) ⌝ }
+    ensures { λ r. ⌜ GrowsLists (stateOf fields (now (heard .entry)) (now (candidates .entry)) (now (echoes .entry))) (now (tray .entry)) r (now (candidates .exit)) (now (echoes .exit)) ⌝ }
+{
+    let most = most_listed(fields, heard, tray, firsts);
+    if most < 264 {
+        grow_few(fields, heard, candidates, echoes, tray, firsts, most)
+    } else {
+        grow_many(fields, heard, candidates, echoes, tray, firsts, most)
     }
 }
