@@ -18,6 +18,7 @@ use crate::rotation::roster;
 use crate::state::Fields;
 use crate::tally::Lists;
 use crate::tally::grow;
+use crate::tally::grow_many;
 use wire::frame::kind_of;
 use wire::limits::MAX_NUMBERS;
 
@@ -128,7 +129,7 @@ fn grown(fields: Fields, lists: Lists, bit: u8, candidates: &[u32; MAX_NUMBERS])
     }
 }
 
-// Making round 3: nobody has been king yet, so the bit stays.
+// Making round 3: nobody has been king yet, so the bit stays. The lists are rosters, longer than most echoes later.
 fn make_first_value(
     fields: Fields,
     heard: &[u32; MAX_NUMBERS],
@@ -140,7 +141,7 @@ fn make_first_value(
     requires { ⌜ Ready (stateOf fields (now heard) (now candidates) (now echoes)) (now tray) (now firsts) × (kindOf (fields .round + 1) ≡ 3) × (fields .round < 3) ⌝ }
     ensures { λ r. ⌜ Makes (stateOf fields (now (heard .entry)) (now (candidates .entry)) (now (echoes .entry))) (now (tray .entry)) (r .fits) (stateOf (r .fields) (now (heard .entry)) (now (candidates .exit)) (now (echoes .exit))) ⌝ }
 {
-    let lists = grow(fields, heard, candidates, echoes, tray, firsts);
+    let lists = grow_many(fields, heard, candidates, echoes, tray, firsts);
     grown(fields, lists, fields.bit, candidates)
 }
 

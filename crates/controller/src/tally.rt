@@ -520,50 +520,8 @@ fn most_listed(
     total
 }
 
-// The same, with room of its own for `most` numbers, which are fewer than 264. Little room is quick to clear.
-fn grow_few(
-    fields: Fields,
-    heard: &[u32; MAX_NUMBERS],
-    candidates: &mut [u32; MAX_NUMBERS],
-    echoes: &mut [u32; MAX_NUMBERS],
-    tray: &[u8],
-    firsts: &[usize; MAX_NUMBERS],
-    most: usize,
-) -> Lists
-    requires { ⌜ Ready (stateOf fields (now heard) (now candidates) (now echoes)) (now tray) (now firsts) × (listedIn (stateOf fields (now heard) (now candidates) (now echoes)) (now tray) ≤ most) × (most < 264) ⌝ }
-    ensures { λ r. ⌜ GrowsLists (stateOf fields (now (heard .entry)) (now (candidates .entry)) (now (echoes .entry))) (now (tray .entry)) r (now (candidates .exit)) (now (echoes .exit)) ⌝ }
-{
-    if most < 72 {
-        let mut a = [0u64; 72];
-        let mut b = [0u64; 72];
-        grow_in(
-            fields,
-            heard,
-            candidates,
-            echoes,
-            tray,
-            firsts,
-            &mut a,
-            &mut b,
-        )
-    } else {
-        let mut a = [0u64; 264];
-        let mut b = [0u64; 264];
-        grow_in(
-            fields,
-            heard,
-            candidates,
-            echoes,
-            tray,
-            firsts,
-            &mut a,
-            &mut b,
-        )
-    }
-}
-
-// The same, for more numbers.
-fn grow_many(
+// The same, with room of its own for `most` numbers. Little room is quick to clear.
+fn grow_most(
     fields: Fields,
     heard: &[u32; MAX_NUMBERS],
     candidates: &mut [u32; MAX_NUMBERS],
@@ -604,8 +562,8 @@ fn grow_many(
     }
 }
 
-// Echoes and candidates after the tray.
-pub(crate) fn grow(
+// Echoes and candidates after the tray, for lists of any length.
+pub(crate) fn grow_many(
     fields: Fields,
     heard: &[u32; MAX_NUMBERS],
     candidates: &mut [u32; MAX_NUMBERS],
@@ -618,8 +576,50 @@ pub(crate) fn grow(
 {
     let most = most_listed(fields, heard, tray, firsts);
     if most < 264 {
-        grow_few(fields, heard, candidates, echoes, tray, firsts, most)
+        let mut a = [0u64; 264];
+        let mut b = [0u64; 264];
+        grow_in(
+            fields,
+            heard,
+            candidates,
+            echoes,
+            tray,
+            firsts,
+            &mut a,
+            &mut b,
+        )
     } else {
-        grow_many(fields, heard, candidates, echoes, tray, firsts, most)
+        grow_most(fields, heard, candidates, echoes, tray, firsts, most)
+    }
+}
+
+// The same, where short lists are likely.
+pub(crate) fn grow(
+    fields: Fields,
+    heard: &[u32; MAX_NUMBERS],
+    candidates: &mut [u32; MAX_NUMBERS],
+    echoes: &mut [u32; MAX_NUMBERS],
+    tray: &[u8],
+    firsts: &[usize; MAX_NUMBERS],
+) -> Lists
+    requires { ⌜ Ready (stateOf fields (now heard) (now candidates) (now echoes)) (now tray) (now firsts) ⌝ }
+    ensures { λ r. ⌜ GrowsLists (stateOf fields (now (heard .entry)) (now (candidates .entry)) (now (echoes .entry))) (now (tray .entry)) r (now (candidates .exit)) (now (echoes .exit)) ⌝ }
+{
+    let most = most_listed(fields, heard, tray, firsts);
+    if most < 72 {
+        let mut a = [0u64; 72];
+        let mut b = [0u64; 72];
+        grow_in(
+            fields,
+            heard,
+            candidates,
+            echoes,
+            tray,
+            firsts,
+            &mut a,
+            &mut b,
+        )
+    } else {
+        grow_many(fields, heard, candidates, echoes, tray, firsts)
     }
 }

@@ -4,16 +4,16 @@ use Rattle.controller.specs.Laws.Step.{first-taken}
 use Rattle.controller.proofs.step.make_first_value.Statement.{statement}
 use Rattle.controller.proofs.step.make_first_value.Tie as tie
 
-grow-requires : tie.Need-grow-requires
-grow-requires c κs = c .before .before .before .pre .0
+grow-many-requires : tie.Need-grow-many-requires
+grow-many-requires c κs = c .before .before .before .pre .0
 
 grown-requires : tie.Need-grown-requires
-grown-requires c κs = (omega (arith, c .before .before .before .before .before .pre .2), c .before .grow .ensures .few)
+grown-requires c κs = (omega (arith, c .before .before .before .before .before .pre .2), c .before .grow-many .ensures .few)
 
 returns : tie.Need-returns
 returns c =
     let pre = c .before .before .before .before .before .before .pre in
-    c .grown .ensures _ _ _ _ _ _ (record { ready = pre .0; kind = pre .1; taken = first-taken (pre .0) (pre .2); lists = c .before .before .grow .ensures })
+    c .grown .ensures _ _ _ _ _ _ (record { ready = pre .0; kind = pre .1; taken = first-taken (pre .0) (pre .2); lists = c .before .before .grow-many .ensures })
 
 pub make-first-value-spec : {M : Type 1} → statement M
-make-first-value-spec = tie.close (tie.spec grow-requires grown-requires returns)
+make-first-value-spec = tie.close (tie.spec grow-many-requires grown-requires returns)

@@ -1,9 +1,17 @@
--- `controller::tally::grow_few` meets its contract: there is room for as many numbers as can be listed.
+-- `controller::tally::grow_most` meets its contract: there is room for as many numbers as can be listed, at most 64 in each of 64 lists.
 use mathlib.Core.Path.{refl}
 use native.Mathlib.Omega.{arith}
 use borrow.Author.Needs.{needs}
-use Rattle.controller.proofs.tally.grow_few.Statement.{statement}
-use Rattle.controller.proofs.tally.grow_few.Tie as tie
+use denote.Ref.{now}
+use Rattle.controller.specs.Fields.{stateOf}
+use Rattle.controller.specs.Laws.Ready.{ready-short}
+use Rattle.controller.specs.Laws.Tally.{all-lists-few}
+use Rattle.controller.specs.declared.state.State.{State}
+use Rattle.controller.proofs.tally.grow_most.Statement.{statement}
+use Rattle.controller.proofs.tally.grow_most.Tie as tie
+
+abbrev state : tie.Start → State
+state c = stateOf (c .args .fields) (now (c .args .heard)) (now (c .args .candidates)) (now (c .args .echoes))
 
 slice-aggregate-grow-in : tie.Need-slice-aggregate-grow-in
 slice-aggregate-grow-in c = search needs
@@ -21,7 +29,9 @@ slice-aggregate-grow-in-4 : tie.Need-slice-aggregate-grow-in-4
 slice-aggregate-grow-in-4 c = search needs
 
 grow-in-requires-2 : tie.Need-grow-in-requires-2
-grow-in-requires-2 c κs = let pre = c .before .before .before .before .before .before .pre in (pre .0, omega (arith, pre .1, pre .2), omega arith, refl)
+grow-in-requires-2 c κs =
+    let start = c .before .before .before .before .before .before in
+    (start .pre .0, omega (arith, all-lists-few (state start) (now (start .args .tray)) (start .pre .0 .sound) (ready-short (start .pre .0))), omega arith, refl)
 
 returns : tie.Need-returns
 returns c = c .before .before .grow-in .ensures
@@ -29,8 +39,8 @@ returns c = c .before .before .grow-in .ensures
 returns-2 : tie.Need-returns-2
 returns-2 c = c .before .before .grow-in2 .ensures
 
-pub grow-few-spec : {M : Type 1} → statement M
-grow-few-spec =
+pub grow-most-spec : {M : Type 1} → statement M
+grow-most-spec =
     tie.close
     (tie.spec
     slice-aggregate-grow-in
