@@ -3,9 +3,7 @@ ghost use mathlib.Core.Bool.{true, cond};
 ghost use mathlib.Core.List.{List};
 ghost use mathlib.Core.Path.{_≡_};
 ghost use Prim.Native.Nat.{ℕ, _≤_, _<_};
-ghost use lib.Dec.{ltb};
 ghost use lib.ListN.{length};
-ghost use Rattle.wire.specs.Frame.{maxCount};
 ghost use Rattle.wire.specs.Limits.{maxFrame, lastRound};
 ghost use Rattle.wire.specs.Tray.{entries};
 ghost use Rattle.controller.specs.Fields.{stateOf, answerOf};
@@ -18,6 +16,7 @@ use crate::lists::no_numbers;
 use crate::received::first_entries;
 use crate::received::hear;
 use crate::received::senders_fit;
+use crate::received::sent_count;
 use crate::sound::fields_of;
 use crate::sound::is_sound;
 use crate::state::Answer;
@@ -27,7 +26,6 @@ use crate::state::Worked;
 use crate::step::step;
 use wire::frame::Frame;
 use wire::frame::kind_of;
-use wire::frame::max_count;
 use wire::frame::said_by;
 use wire::frame::write_frame;
 use wire::limits::LAST_ROUND;
@@ -97,13 +95,6 @@ fn left(refusal: u8, fields: Fields) -> Worked
     }
 }
 
-// How many of the echoes are sent: all in a roster and a turn, else none.
-fn sent_count(kind: u8, len: usize) -> usize
-    ensures { λ r. ⌜ r ≡ cond (ltb 0 (maxCount kind)) len 0 ⌝ }
-{
-    if 0 < max_count(kind) { len } else { 0 }
-}
-
 // Writes the frame that is sent with a state, and returns its length.
 fn send(fields: Fields, echoes: &[u32], out: &mut [u8]) -> usize
     requires { ⌜ (maxFrame ≤ length (now out)) × (fields .echoes ≤ length (now echoes)) ⌝ }
@@ -112,7 +103,7 @@ fn send(fields: Fields, echoes: &[u32], out: &mut [u8]) -> usize
     let round = fields.round;
     let kind = kind_of(round);
     let said = said_by(kind, fields.said);
-    let len = sent_count(kind, fields.echoes);
+    let len = sent_count(fields);
     let written = write_frame(Frame { round, said }, &echoes[0..len], out);
     written.length
 }

@@ -3,9 +3,9 @@ ghost use mathlib.Core.Bool.{true, not, cond, _&&_};
 ghost use mathlib.Core.List.{List};
 ghost use mathlib.Core.Path.{_≡_};
 ghost use Prim.Native.Nat.{ℕ, _<_, _≤_};
-ghost use lib.Dec.{eqb};
+ghost use lib.Dec.{eqb, ltb};
 ghost use lib.ListN.{getD};
-ghost use Rattle.wire.specs.Frame.{kindOf, bitIn};
+ghost use Rattle.wire.specs.Frame.{kindOf, maxCount, bitIn};
 ghost use Rattle.wire.specs.Limits.{maxNumbers};
 ghost use Rattle.wire.specs.Numbers.{listed};
 ghost use Rattle.wire.specs.Tray.{wellFormed, entryCount, entries, place, bytesAt};
@@ -18,6 +18,8 @@ use crate::lists::has_at;
 use crate::lists::insert_at;
 use crate::lists::place_near;
 use crate::state::Fields;
+use wire::frame::kind_of;
+use wire::frame::max_count;
 use wire::frame::read_bit;
 use wire::limits::MAX_NUMBERS;
 use wire::tray::Found;
@@ -123,6 +125,17 @@ pub(crate) fn received_bit(own: u32, round: u32, said: u8, tray: &[u8], x: u32, 
         said
     } else {
         entry_bit(tray, entry, round)
+    }
+}
+
+// How many of the echoes a state's frame lists: all in a roster and a turn, else none.
+pub(crate) fn sent_count(fields: Fields) -> usize
+    ensures { λ r. ⌜ r ≡ cond (ltb 0 (maxCount (kindOf (fields .round)))) (fields .echoes) 0 ⌝ }
+{
+    if 0 < max_count(kind_of(fields.round)) {
+        fields.echoes
+    } else {
+        0
     }
 }
 

@@ -10,7 +10,7 @@ ghost use lib.Dec.{ltb};
 ghost use lib.ListN.{length, take};
 ghost use Rattle.wire.specs.Limits.{maxNumbers};
 ghost use Rattle.wire.specs.Numbers.{stored, listed};
-ghost use Rattle.wire.specs.Frame.{content, kindOf, maxCount};
+ghost use Rattle.wire.specs.Frame.{content};
 ghost use Rattle.wire.specs.Tray.{place, bytesAt, entries};
 ghost use Rattle.controller.specs.Fields.{stateOf};
 ghost use Rattle.controller.specs.Lists.{mem, Rising};
@@ -22,9 +22,8 @@ use crate::keys::Runs;
 use crate::keys::halve;
 use crate::keys::merge;
 use crate::keys::merge_all;
+use crate::received::sent_count;
 use crate::state::Fields;
-use wire::frame::kind_of;
-use wire::frame::max_count;
 use wire::frame::read_count;
 use wire::frame::read_number;
 use wire::limits::MAX_NUMBERS;
@@ -93,17 +92,6 @@ fn put_entry(
     }
 }
 
-// How many of the echoes were sent: all in a roster and a turn, else none.
-fn own_count(fields: Fields) -> usize
-    ensures { λ r. ⌜ r ≡ cond (ltb 0 (maxCount (kindOf (fields .round)))) (fields .echoes) 0 ⌝ }
-{
-    if 0 < max_count(kind_of(fields.round)) {
-        fields.echoes
-    } else {
-        0
-    }
-}
-
 // Puts the list received under the number `x` into `keys`, if `entry` is its first entry.
 fn put_received(
     fields: Fields,
@@ -119,7 +107,7 @@ fn put_received(
     ensures { λ r. ⌜ PutsKeys count (listUnder fields (now (echoes .entry)) (now (tray .entry)) x entry) (now (keys .entry)) (now (keys .exit)) to r ⌝ }
 {
     if x == fields.own {
-        put_keys(echoes, own_count(fields), count, keys, to)
+        put_keys(echoes, sent_count(fields), count, keys, to)
     } else {
         put_entry(tray, entry, fields.round, count, keys, to)
     }

@@ -27,12 +27,12 @@ use Rattle.controller.proofs.calls.send.Tie as tie
 
 module _ (s : State) where
   -- what is handed to the writer is the state's own frame
-  content-is : (k n : ℕ) (a : Said) → k ≡ kindOf (s .round) → n ≡ cond (ltb 0 (maxCount k)) (s .echoes .len) 0 → a ≡ saidBy k (s .said)
+  content-is : (k n : ℕ) (a : Said) → k ≡ kindOf (s .round) → n ≡ cond (ltb 0 (maxCount (kindOf (s .round)))) (s .echoes .len) 0 → a ≡ saidBy k (s .said)
       → _≡_ {A = Content} (record { round = s .round; said = a; numbers = take (n - 0) (drop 0 (s .echoes .at)) }) (frameOf (view s))
   unfolding frameOf
   content-is k n a kind count said =
       let numbers : take (n - 0) (drop 0 (s .echoes .at)) ≡ cond (ltb 0 (maxCount (kindOf (s .round)))) (listed (s .echoes)) [] =
-      rw (sub-zero n, count, kind) (pick (ltb 0 (maxCount (kindOf (s .round))))) in
+      rw (sub-zero n, count) (pick (ltb 0 (maxCount (kindOf (s .round))))) in
       let says : a ≡ saidBy (kindOf (s .round)) (s .said) = said ∙ ap (λ (j : ℕ). saidBy j (s .said)) kind in
       λ i. record { round = s .round; said = says i; numbers = numbers i }
     where

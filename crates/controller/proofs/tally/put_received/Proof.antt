@@ -47,14 +47,14 @@ module _ (f : Fields) (e b : List ℕ) (x i : ℕ) where
 abbrev outside : tie.After-struct-known → tie.Start
 outside c = c .before .before .before
 
-own-count-requires : tie.Need-own-count-requires
-own-count-requires c κs = search needs
+sent-count-requires : tie.Need-sent-count-requires
+sent-count-requires c κs = search needs
 
 put-keys-requires : tie.Need-put-keys-requires
 put-keys-requires c κs =
     let start = outside (c .before .before .before) in
     let a = start .args in
-    let count = c .before .own-count in
+    let count = c .before .sent-count in
     let same = c .before .before .if1 .taken in
     let few = own-few (a .fields) (now (a .echoes)) (now (a .tray)) (a .x) (a .entry) (count .result) same (count .ensures) (start .pre .0) in
     let used = own-size (a .fields) (now (a .echoes)) (now (a .tray)) (a .x) (a .entry) (count .result) same (count .ensures) (start .pre .0) (start .pre .1) in
@@ -71,7 +71,7 @@ same-length c = search needs
 
 returns : tie.Need-returns
 returns c =
-    let count = c .before .before .before .before .own-count in
+    let count = c .before .before .before .before .sent-count in
     let oneself = c .before .before .before .before .before in
     let a = outside (oneself .before) .args in
     rw (own (a .fields) (now (a .echoes)) (now (a .tray)) (a .x) (a .entry) (count .result) (oneself .if1 .taken) (count .ensures)) at (c .before .before .put-keys .ensures)
@@ -89,7 +89,7 @@ pub put-received-spec : {M : Type 1} → statement M
 put-received-spec =
     tie.close
     (tie.spec
-    own-count-requires
+    sent-count-requires
     put-keys-requires
     put-entry-requires
     same-length

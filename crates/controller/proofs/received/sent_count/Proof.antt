@@ -1,10 +1,10 @@
--- `controller::tally::own_count` meets its contract: the branch is the definition's test.
+-- `controller::received::sent_count` meets its contract: the branch is the definition's test.
 use mathlib.Core.Path.{_≡_, ap, _∙_}
 use borrow.Author.Needs.{needs}
 use borrow.Author.Tests.{lt-ltb, le-ltb}
 use Rattle.wire.specs.Frame.{kindOf, maxCount}
-use Rattle.controller.proofs.tally.own_count.Statement.{statement}
-use Rattle.controller.proofs.tally.own_count.Tie as tie
+use Rattle.controller.proofs.received.sent_count.Statement.{statement}
+use Rattle.controller.proofs.received.sent_count.Tie as tie
 
 most-is : (c : tie.After-max-count) → c .max-count .result ≡ maxCount (kindOf (c .before .before .args .fields .round))
 most-is c = c .max-count .ensures ∙ ap maxCount (c .before .kind-of .ensures)
@@ -21,5 +21,5 @@ returns c = rw (← most-is (c .before), lt-ltb 0 (c .before .max-count .result)
 returns-2 : tie.Need-returns-2
 returns-2 c = rw (← most-is (c .before), le-ltb 0 (c .before .max-count .result) (c .if1 .left))
 
-pub own-count-spec : {M : Type 1} → statement M
-own-count-spec = tie.close (tie.spec kind-of-requires max-count-requires returns returns-2)
+pub sent-count-spec : {M : Type 1} → statement M
+sent-count-spec = tie.close (tie.spec kind-of-requires max-count-requires returns returns-2)
