@@ -379,18 +379,13 @@ module _ (v : View) (es : List Entry) (l : List ℕ)
     unfolding new joining all
     sorted-candidates = all-candidates
 
--- the tally does not depend on the candidates
-tally-alone : (g : Fields) (h c e : List ℕ) (es : List Entry) (x : ℕ) → tally (view (stateOf g h [] e)) es x ≡ tally (view (stateOf g h c e)) es x
-unfolding tally received frameOf heardAfter
-tally-alone g h c e es x = refl
-
--- what is sorted out of the one run is what the rules give
 pub sorted-grows : (g : Fields) (h c e b : List ℕ) {k at f : List ℕ} {runs : Runs} {end : ℕ} {r : Lists} {c₁ e₁ : List ℕ} → sound (stateOf g h c e) ≡ true
     → g .heard ≡ length (heardAfter (view (stateOf g h c e)) (entries b)) → g .heard ≤ maxNumbers → Tallies (stateOf g h [] e) b k runs at → OneRun k runs f end
     → SortsOut (take end f) (g .heard) (record { len = g .candidates; at = c }) e r c₁ e₁ → GrowsLists (stateOf g h c e) b r c₁ e₁
 sorted-grows g h c e b {f = f} {end = end} test size few all one sorts =
     let s = stateOf g h c e in
-    let counts : (x : ℕ) → counted x (take end f) ≡ tally (view s) (entries b) x = λ x. one .counts x ∙ all .counts x ∙ tally-alone g h c e (entries b) x in
+    let whole = tallies-else g h [] c e b all in
+    let counts : (x : ℕ) → counted x (take end f) ≡ tally (view s) (entries b) x = λ x. one .counts x ∙ whole .counts x in
     let echoes = rw (← size) at (sorted-echoes (view s) (entries b) (take end f) (sound-gives s test) (omega arith) (one .rises) counts) in
     let candidates = rw (← size) at (sorted-candidates (view s) (entries b) (take end f) (sound-gives s test) (omega arith) (one .rises) counts) in
     record {
@@ -433,8 +428,9 @@ low-grows g h c e b m test size all low few places =
     let v = view s in
     let es = entries b in
     let tests = sound-list-gives (s .candidates) (candidates-tests s test) in
+    let whole = tallies-else g h [] c e b all in
     let under : (x : ℕ) → 3 * tally v es x < length (heardAfter v es) =
-    λ x. omega (arith, keyed-counted m x (all .keyed) low, all .counts x, tally-alone g h c e es x, few, size) in
+    λ x. omega (arith, keyed-counted m x (whole .keyed) low, whole .counts x, few, size) in
     let echoes = none-echoed v es (sound-gives s test) under in
     let candidates = none-joins v es (sound-gives s test) under in
     let one : leb (length (candidatesAfter v es)) maxNumbers ≡ true = le-leb (length (candidatesAfter v es)) maxNumbers (omega (arith, ap length candidates, tests .list .short)) in
@@ -494,6 +490,3 @@ lists-few v es h (x ∷ l) =
 pub all-lists-few : (s : State) (b : List ℕ) → sound s ≡ true → length (heardAfter (view s) (entries b)) ≤ maxNumbers
     → length (allLists (view s) (entries b) (heardAfter (view s) (entries b))) ≤ maxNumbers * maxNumbers
 all-lists-few s b test few = omega (arith, lists-few (view s) (entries b) (sound-gives s test) (heardAfter (view s) (entries b)))
-
-pub echoes-few : (s : State) → sound s ≡ true → s .echoes .len ≤ maxNumbers
-echoes-few s test = omega (arith, ap (λ (t : State). t .echoes .len) (sound-stored s test), sound-gives s test .echoes .short)

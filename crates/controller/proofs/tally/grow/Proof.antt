@@ -6,7 +6,7 @@ use borrow.Author.Needs.{needs}
 use denote.Ref.{now}
 use Rattle.controller.specs.Fields.{stateOf}
 use Rattle.controller.specs.Laws.Ready.{ready-few}
-use Rattle.controller.specs.Laws.Tally.{echoes-few}
+use Rattle.controller.specs.Laws.Tally.{echoes-sized}
 use Rattle.controller.specs.Storage.{listedIn}
 use Rattle.controller.specs.declared.state.State.{State}
 use Rattle.controller.proofs.tally.grow.Statement.{statement}
@@ -23,7 +23,7 @@ room : (c : tie.After-most-listed) → listedIn (state (given c)) (now (given c 
 room c = c .most-listed .ensures (now (given c .args .candidates)) (now (given c .args .echoes)) (given c .pre)
 
 most-listed-requires : tie.Need-most-listed-requires
-most-listed-requires c κs = let ready = c .before .pre in (ready-few ready, echoes-few (state (c .before)) (ready .sound))
+most-listed-requires c κs = let ready = c .before .pre in (ready-few ready, echoes-sized (state (c .before)) (ready .sound) .0)
 
 slice-aggregate-grow-in : tie.Need-slice-aggregate-grow-in
 slice-aggregate-grow-in c = search needs
