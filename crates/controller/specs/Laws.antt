@@ -1,16 +1,21 @@
 -- Laws about the definitions, for the proofs of this crate and of the crates above it.
 pub mod Examples
-pub mod Keys
+pub mod Grow
+pub mod Heads
 pub mod Lists
-pub mod Merge
+pub mod Opened
 pub mod Ready
 pub mod Received
 pub mod Refusals
 pub mod Rotation
 pub mod Rules
+pub mod Settle
 pub mod State
 pub mod Step
 pub mod Storage
 pub mod Tally
 pub mod Thirds
+pub mod Total
+pub mod Tree
 pub mod Trials
+pub mod Walk

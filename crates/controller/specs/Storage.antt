@@ -10,13 +10,6 @@
 --     listUnder f e b x i      that frame's list, where f are the state's fields and e the places of its echoes
 --     Alike o b l n f j r      under each of the r numbers from place j on, of the n numbers l with their first entries f, the same bytes are received, or r is 1; o is the own number
 --     CountsBits k v es r      r has how many of those heard sent each bit in a frame of kind k
---     listedIn s b             how many numbers the lists have in all that are received in the state s with the tray b
---     Fillable f h e b t n     what filling in the lists finds: a state that is ready for the tray b, with room for n keys
---     Tallies s b k r at       the keys k, in the runs r of the lengths at, count each number as the received lists do
---     echoesIn c n l           of the keys l, counted in n lists, the numbers that reach a third and are not in c
---     candidatesIn c n l       the numbers c, with those of them that reach two thirds
---     Sortable a b e w n       what sorting out finds: e rising keys in a with small counts, the candidates w before the step, and room to work in
---     SortsOut l n w e r ..    r has the lengths of these two lists, and says whether they fit; where they do, the places after it are theirs, else those before it
 --     GrowsLists s b r c e     so it is with the echoes and candidates that making round 3 + 3r gives, where c and e are the places after it
 --     Grows s b f l d c e      what the making of round 3 + 3r has made of the state s before (c): these lists, and the bit d
 --     proposedFrom z o h       the bit whose values, z and o of h, reach two thirds
@@ -26,7 +19,7 @@
 --     namedState n d r         the state n with the decision and the king that (c) gives in phase r, from the decision d before the step
 --     Makes s b r t            r says whether the lists of the state that the step makes of s fit; if so, t is that state, else t is s
 --     Sends v before r after   r is the length of the frame that is sent with v, and it stands in front of what stood in the buffer
-use Prim.Native.Nat.{ℕ, _+_, _*_, _<_, _≤_}
+use Prim.Native.Nat.{ℕ, _+_, _<_, _≤_}
 use mathlib.Core.Bool.{true, false, not, cond, _&&_, Bool}
 use mathlib.Core.List.{List, [], _∷_, _++_}
 use mathlib.Core.Logic.{_≢_}
@@ -41,12 +34,10 @@ use Rattle.wire.specs.Tray.{Entry, wellFormed, roundOf, entries, place, bytesAt
 use Rattle.wire.specs.Frame.{Content, kindOf, maxCount, bitIn}
 use Rattle.wire.specs.declared.frame.Numbers.{Numbers}
 use Rattle.controller.specs.Lists.{In, countIf}
-use Rattle.controller.specs.State.{View, view, image, sound, undecided, soundList}
-use Rattle.controller.specs.Fields.{stateOf}
+use Rattle.controller.specs.State.{View, view, image, sound, undecided}
 use Rattle.controller.specs.Thirds.{third, twoThirds}
 use Rattle.controller.specs.Received.{frameOf, senders, heardAfter, readIn, listIn, says, count}
-use Rattle.controller.specs.Rotation.{tally, allLists, echoed, candidatesAfter}
-use Rattle.controller.specs.Keys.{counted, RisingKeys, Keyed, numbersIn, reaching, newTo, joinedBy}
+use Rattle.controller.specs.Rotation.{echoed, candidatesAfter}
 use Rattle.controller.specs.Bit.{bitTaken, bitAdopted, strongAfter, opinion}
 use Rattle.controller.specs.Rules.{next}
 use Rattle.controller.specs.Refusals.{listsFit}
@@ -54,7 +45,6 @@ use Rattle.controller.specs.Calls.{sentBytes}
 use Rattle.controller.specs.declared.state.Fields.{Fields}
 use Rattle.controller.specs.declared.state.State.{State}
 use Rattle.controller.specs.declared.received.Counts.{Counts}
-use Rattle.controller.specs.declared.keys.Runs.{Runs}
 use Rattle.controller.specs.declared.tally.Lists.{Lists}
 use Rattle.controller.specs.declared.bit.Turn.{Turn}
 
@@ -103,40 +93,6 @@ pub record Alike (own : ℕ) (b l : List ℕ) (n : ℕ) (f : List ℕ) (j r : �
 pub record CountsBits (k : ℕ) (v : View) (es : List Entry) (r : Counts) : Type 0 where
   pub zeros : r .zeros ≡ count (says k 0) v es
   pub ones : r .ones ≡ count (says k 1) v es
-
-abbrev pub listedIn : State → List ℕ → ℕ
-listedIn s b = length (allLists (view s) (entries b) (heardAfter (view s) (entries b)))
-
-pub record Fillable (f : Fields) (h e b t : List ℕ) (n : ℕ) : Type 0 where
-  pub candidates : List ℕ
-  pub ready : Ready (stateOf f h candidates e) b t
-  pub room : listedIn (stateOf f h candidates e) b < n
-
-pub record Tallies (s : State) (b k : List ℕ) (r : Runs) (at : List ℕ) : Type 0 where
-  pub keyed : Keyed k r at
-  pub counts : (x : ℕ) → counted x (take (r .end) k) ≡ tally (view s) (entries b) x
-
-abbrev pub echoesIn : List ℕ → ℕ → List ℕ → List ℕ
-echoesIn c n l = numbersIn (newTo c (reaching n l))
-
-abbrev pub candidatesIn : List ℕ → ℕ → List ℕ → List ℕ
-candidatesIn c n l = joinedBy (reaching (2 * n) (newTo c (reaching n l))) c
-
-pub record Sortable (a b : List ℕ) (end : ℕ) (w : Numbers) (n : ℕ) : Type 0 where
-  pub inside : end < length a
-  pub room : maxNumbers < length a
-  pub same : length b ≡ length a
-  pub rises : RisingKeys (take end a)
-  pub slim : (x : ℕ) → counted x (take end a) ≤ maxNumbers
-  pub were : soundList w ≡ true
-  pub lists : n ≤ maxNumbers
-
-pub record SortsOut (l : List ℕ) (n : ℕ) (w : Numbers) (e : List ℕ) (r : Lists) (candidatesAfter echoesAfter : List ℕ) : Type 0 where
-  pub fits : r .fits ≡ (leb (length (candidatesIn (listed w) n l)) maxNumbers && leb (length (echoesIn (listed w) n l)) maxNumbers)
-  pub few : r .candidates ≤ maxNumbers
-  pub echoes : r .fits ≡ true → _≡_ {A = Numbers} (record { len = r .echoes; at = echoesAfter }) (stored (echoesIn (listed w) n l))
-  pub candidates : r .fits ≡ true → _≡_ {A = Numbers} (record { len = r .candidates; at = candidatesAfter }) (stored (candidatesIn (listed w) n l))
-  pub kept : r .fits ≡ false → (candidatesAfter ≡ w .at) × (echoesAfter ≡ e)
 
 pub record GrowsLists (s : State) (b : List ℕ) (r : Lists) (c e : List ℕ) : Type 0 where
   pub fits : r .fits ≡ (leb (length (candidatesAfter (view s) (entries b))) maxNumbers && leb (length (echoed (view s) (entries b))) maxNumbers)

@@ -1,8 +1,10 @@
 // One controller's part in a run: its state, and the two calls, start and tray. Bytes are known through the crate wire alone.
+mod alike;
 mod bit;
 pub mod calls;
-mod keys;
+mod heads;
 mod lists;
+mod opened;
 mod received;
 mod rotation;
 pub mod sound;

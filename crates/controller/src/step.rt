@@ -18,7 +18,6 @@ use crate::rotation::roster;
 use crate::state::Fields;
 use crate::tally::Lists;
 use crate::tally::grow;
-use crate::tally::grow_many;
 use wire::frame::kind_of;
 use wire::limits::MAX_NUMBERS;
 
@@ -129,22 +128,6 @@ fn grown(fields: Fields, lists: Lists, bit: u8, candidates: &[u32; MAX_NUMBERS])
     }
 }
 
-// Making round 3: nobody has been king yet, so the bit stays. The lists are rosters, longer than most echoes later.
-fn make_first_value(
-    fields: Fields,
-    heard: &[u32; MAX_NUMBERS],
-    candidates: &mut [u32; MAX_NUMBERS],
-    echoes: &mut [u32; MAX_NUMBERS],
-    tray: &[u8],
-    firsts: &[usize; MAX_NUMBERS],
-) -> Made
-    requires { ⌜ Ready (stateOf fields (now heard) (now candidates) (now echoes)) (now tray) (now firsts) × (kindOf (fields .round + 1) ≡ 3) × (fields .round < 3) ⌝ }
-    ensures { λ r. ⌜ Makes (stateOf fields (now (heard .entry)) (now (candidates .entry)) (now (echoes .entry))) (now (tray .entry)) (r .fits) (stateOf (r .fields) (now (heard .entry)) (now (candidates .exit)) (now (echoes .exit))) ⌝ }
-{
-    let lists = grow_many(fields, heard, candidates, echoes, tray, firsts);
-    grown(fields, lists, fields.bit, candidates)
-}
-
 fn make_value(
     fields: Fields,
     heard: &[u32; MAX_NUMBERS],
@@ -181,11 +164,7 @@ pub(crate) fn step(
             fields: made,
         }
     } else if kind == 3 {
-        if fields.round < 3 {
-            make_first_value(fields, heard, candidates, echoes, tray, firsts)
-        } else {
-            make_value(fields, heard, candidates, echoes, tray, firsts)
-        }
+        make_value(fields, heard, candidates, echoes, tray, firsts)
     } else if kind == 4 {
         let made = make_propose(fields, heard, tray, firsts);
         Made {

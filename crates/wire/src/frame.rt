@@ -345,15 +345,15 @@ pub fn read_count(bytes: &[u8], round: u32) -> usize
     }
 }
 
-// The number at a place of a frame's list; 0 where the bytes end before it.
-pub fn read_number(bytes: &[u8], i: usize) -> u32
-    ensures { λ r. ⌜ r ≡ cond (leb (frameHeader + numberWidth * (i + 1)) (length (now (bytes .entry)))) (wordAt (now (bytes .entry)) (frameHeader + numberWidth * i)) 0 ⌝ }
+// The number in the four bytes from a place on: one of a frame's list, in the frame or in the tray that it lies in. 0 where the bytes end before it.
+pub fn read_number(bytes: &[u8], at: usize) -> u32
+    ensures { λ r. ⌜ r ≡ cond (leb (at + numberWidth) (length (now (bytes .entry)))) (wordAt (now (bytes .entry)) at) 0 ⌝ }
 {
-    if bytes.len() < FRAME_HEADER {
+    if bytes.len() < NUMBER_WIDTH {
         return 0;
     }
-    if i < (bytes.len() - FRAME_HEADER) / NUMBER_WIDTH {
-        word(bytes, FRAME_HEADER + NUMBER_WIDTH * i)
+    if at <= bytes.len() - NUMBER_WIDTH {
+        word(bytes, at)
     } else {
         0
     }

@@ -3,23 +3,37 @@
 use checks::calls::{Calls, Engine, Reference};
 use checks::fields::{Fields, IMAGE_LEN};
 use checks::packing::{frame, pack, Entry, MAX_ENTRIES, NONE};
+use checks::random::Random;
 
 pub const SIZES: [usize; 3] = [4, 16, 64];
 
 /// A name and how to make the input for a line of n.
 pub type Make = (&'static str, fn(usize) -> Input);
 
-pub const ALL: [Make; 5] = [
+pub const ALL: [Make; 9] = [
     ("value tray", value_tray),
     ("turn tray, equal lists", equal_lists),
+    ("turn tray, a third of the lists random", random_third),
+    ("turn tray, a third off by one number", off_third),
+    (
+        "turn tray, a third random, neighbours shuffled",
+        random_shuffled,
+    ),
     ("turn tray, n * n different numbers", different_lists),
+    ("turn tray, n * n random numbers", random_lists),
     ("value tray, 256 entries", repeated_entries),
     ("whole run to decision", whole_run),
 ];
 
+/// Lists of the same numbers, for the comparison of ways to count.
+pub const SAME_NUMBERS: [Make; 2] = [
+    ("equal lists taken as one", equal_lists),
+    ("each gone along by itself", equal_lists_apart),
+];
+
 pub struct Input {
     /// The state that the first tray meets.
-    image: Vec<u8>,
+    pub image: Vec<u8>,
     pub trays: Vec<Vec<u8>>,
 }
 
@@ -125,6 +139,21 @@ fn equal_lists(size: usize) -> Input {
     turn_tray(&state, |_| line(size))
 }
 
+/// The same, but no two neighbours send the same bytes, and the own list has its
+/// last number off by one: no two lists are taken as one.
+fn equal_lists_apart(size: usize) -> Input {
+    let mut state = state(size, 5);
+    state.candidates.clear();
+    state.echoes = line(size);
+    state.echoes[size - 1] += 1;
+    let others = state.heard.iter().enumerate().skip(1);
+    let frames = others.map(|(place, &n)| (n, frame(5, (place % 3) as u8, &line(size))));
+    Input {
+        image: state.image(),
+        trays: vec![from_others(5, frames)],
+    }
+}
+
 /// Each lists n numbers of its own, spread over the same range, so none comes to
 /// a third and the tray is worked. The lists have 4,096 numbers for n = 64.
 fn different_lists(size: usize) -> Input {
@@ -135,6 +164,71 @@ fn different_lists(size: usize) -> Input {
     let mut state = state(size, 5);
     state.echoes = own_numbers(0);
     turn_tray(&state, own_numbers)
+}
+
+/// Each lists n random numbers.
+fn random_lists(size: usize) -> Input {
+    let mut state = state(size, 5);
+    state.echoes = random_list(size, 0);
+    turn_tray(&state, |place| random_list(size, place))
+}
+
+/// How many of a line may be faulty.
+fn most_faulty(size: usize) -> usize {
+    (size - 1) / 3
+}
+
+/// The first two thirds list the same numbers, the others random ones.
+fn random_third(size: usize) -> Input {
+    let faulty = |place| place >= size - most_faulty(size);
+    with_faulty(size, faulty, |place| random_list(size, place))
+}
+
+/// The same, but those that list random numbers stand between the others.
+fn random_shuffled(size: usize) -> Input {
+    with_faulty(
+        size,
+        |place| place % 3 == 2,
+        |place| random_list(size, place),
+    )
+}
+
+/// The first two thirds list the same numbers, the others have one of them off by
+/// one, each another one.
+fn off_third(size: usize) -> Input {
+    let faulty = |place| place >= size - most_faulty(size);
+    let off = |place: usize| {
+        let mut list = line(size);
+        list[place] += 1;
+        list
+    };
+    with_faulty(size, faulty, off)
+}
+
+/// All list the same n numbers, none of them a candidate, but the faulty ones.
+fn with_faulty(
+    size: usize,
+    faulty: impl Fn(usize) -> bool,
+    list: impl Fn(usize) -> Vec<u32>,
+) -> Input {
+    let mut state = state(size, 5);
+    state.candidates.clear();
+    state.echoes = line(size);
+    turn_tray(&state, |place| match faulty(place) {
+        true => list(place),
+        false => line(size),
+    })
+}
+
+/// n numbers in rising order, the same ones for the same place.
+fn random_list(size: usize, place: usize) -> Vec<u32> {
+    let mut random = Random::new(place as u64);
+    let highest = 1_000_003 * size;
+    let mut numbers = std::collections::BTreeSet::new();
+    while numbers.len() < size {
+        numbers.insert(1 + random.below(highest) as u32);
+    }
+    numbers.into_iter().collect()
 }
 
 /// A turn tray; the list is that of the one at a place in the line.

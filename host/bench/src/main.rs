@@ -4,15 +4,20 @@
 //! same calls on the same image bytes, and, as a floor, one pass over the tray's
 //! bytes word by word. Each timed call starts from the same image: copying it in
 //! costs both the same. Batches of the three take turns, so that a noisy machine
-//! hits all of them, and the medians are printed.
+//! hits all of them, and the medians are printed. A second table compares the order
+//! of work that request A3 asks for with the one that it names.
 
 #![forbid(unsafe_code)]
 
 mod inputs;
+mod look;
 mod measure;
 
+use std::hint::black_box;
+
 use inputs::{Input, SIZES};
-use measure::{measure, Times};
+use look::Lists;
+use measure::{compare, measure, Times};
 
 fn main() {
     println!("Time per call (for a whole run, per run of one controller) in ns.\n");
@@ -31,6 +36,23 @@ fn main() {
             let base = *smallest.get_or_insert(times);
             print_row(name, size, &input, times, base);
         }
+    }
+    print_comparison();
+}
+
+/// The walk of a whole call against looking through each list for each number.
+fn print_comparison() {
+    println!("\nA whole call, and only counting by looking through each list for each number.\n");
+    println!(
+        "| 64 lists of the same 64 numbers | call | looking through | call / looking through |"
+    );
+    println!("|---|--:|--:|--:|");
+    for (name, make) in inputs::SAME_NUMBERS {
+        let input = make(64);
+        input.check();
+        let lists = Lists::of(&input);
+        let (call, look, ratio) = compare(&input, || black_box(&lists).look_through());
+        println!("| {name} | {call:.0} | {look:.0} | {ratio:.2} |");
     }
 }
 

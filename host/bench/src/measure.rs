@@ -25,21 +25,11 @@ pub struct Times {
 
 pub fn measure(input: &Input) -> Times {
     let (mut first, mut second) = (Lent::new(), Lent::new());
-    let mut engine = || u64::from(black_box(input).work::<Engine>(&mut first));
-    let mut reference = || u64::from(black_box(input).work::<Reference>(&mut second));
-    let mut pass = || black_box(input).trays.iter().map(|tray| sum(tray)).sum();
-    let calls = [
-        calls_in_a_batch(&mut engine),
-        calls_in_a_batch(&mut reference),
-        calls_in_a_batch(&mut pass),
-    ];
-    let mut times = [const { Vec::new() }; 3];
-    for _ in 0..BATCHES {
-        times[0].push(batch(&mut engine, calls[0]));
-        times[1].push(batch(&mut reference, calls[1]));
-        times[2].push(batch(&mut pass, calls[2]));
-    }
-    let [engine, reference, pass] = times;
+    let [engine, reference, pass] = take_turns([
+        &mut || u64::from(black_box(input).work::<Engine>(&mut first)),
+        &mut || u64::from(black_box(input).work::<Reference>(&mut second)),
+        &mut || black_box(input).trays.iter().map(|tray| sum(tray)).sum(),
+    ]);
     Times {
         engine_to_reference: median(ratios(&engine, &reference)),
         engine_to_pass: median(ratios(&engine, &pass)),
@@ -47,6 +37,30 @@ pub fn measure(input: &Input) -> Times {
         reference: median(reference),
         pass: median(pass),
     }
+}
+
+/// The engine's time for a call, that of another way to count its lists, and how
+/// often the first is the second.
+pub fn compare(input: &Input, mut other: impl FnMut() -> u64) -> (f64, f64, f64) {
+    let mut lent = Lent::new();
+    let [engine, other] = take_turns([
+        &mut || u64::from(black_box(input).work::<Engine>(&mut lent)),
+        &mut other,
+    ]);
+    let ratio = median(ratios(&engine, &other));
+    (median(engine), median(other), ratio)
+}
+
+/// The times of each call, in batches that take turns.
+fn take_turns<const N: usize>(mut calls: [&mut dyn FnMut() -> u64; N]) -> [Vec<f64>; N] {
+    let counts = calls.each_mut().map(|call| calls_in_a_batch(call));
+    let mut times = [const { Vec::new() }; N];
+    for _ in 0..BATCHES {
+        for ((call, count), times) in calls.iter_mut().zip(counts).zip(&mut times) {
+            times.push(batch(call, count));
+        }
+    }
+    times
 }
 
 fn ratios(times: &[f64], others: &[f64]) -> Vec<f64> {

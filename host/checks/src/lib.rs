@@ -2,8 +2,9 @@
 //!
 //! `tests/differential.rs` compares the engine with the reference call by call;
 //! `tests/lines.rs` runs whole lines of controllers with liars among them;
-//! `tests/example.rs` compiles and runs the C example.
+//! `tests/programs.rs` compiles and runs the C programs.
 //!
+//! - [`c`]: C programs, compiled and run;
 //! - [`calls`]: the calls of both, behind one trait;
 //! - [`random`]: a small random generator, so that a seed fixes a run;
 //! - [`packing`]: frames and trays, packed by hand;
@@ -15,6 +16,7 @@
 
 #![forbid(unsafe_code)]
 
+pub mod c;
 pub mod calls;
 pub mod compare;
 pub mod edges;

@@ -87,9 +87,6 @@ pub count-split : (f : ℕ → Bool) (l : List ℕ) → countIf f l + countIf (�
 count-split f [] = refl
 count-split f (x ∷ l) = let rest = count-split f l in elim (true-or-false (f x)) [ inl t ↦ rw t (omega arith) | inr t ↦ rw t (omega arith) ]
 
-pub count-length : (f : ℕ → Bool) (l : List ℕ) → countIf f l ≤ length l
-count-length f l = omega (arith, count-split f l)
-
 pub count-all : (f : ℕ → Bool) (l : List ℕ) → ((x : ℕ) → In x l → f x ≡ true) → countIf f l ≡ length l
 count-all f [] every = refl
 count-all f (x ∷ l) every = rw (every x (List·Memᴰ·head refl)) (ap suc (count-all f l (λ y i. every y (List·Memᴰ·tail i))))

@@ -206,6 +206,9 @@ sound-gives s h =
 pub sound-heard : (s : State) → sound s ≡ true → soundList (s .heard) ≡ true
 sound-heard s h = tests-give s h .heard
 
+pub sound-candidates : (s : State) → sound s ≡ true → soundList (s .candidates) ≡ true
+sound-candidates s h = tests-give s h .candidates
+
 -- a sound state is the stored form of its view
 pub sound-stored : (s : State) → sound s ≡ true → image (view s) ≡ s
 sound-stored s h =

@@ -17,7 +17,7 @@ use Rattle.controller.specs.Lists.{In}
 use Rattle.controller.specs.State.{View, view, image, sound}
 use Rattle.controller.specs.Received.{senders, heardAfter, received, says}
 use Rattle.controller.specs.Rotation.{roster, echoed, candidatesAfter, decides, kingAfter}
-use Rattle.controller.specs.Bit.{bitTaken, decisionAfter, valueTwoThirds, proposal}
+use Rattle.controller.specs.Bit.{decisionAfter, valueTwoThirds, proposal}
 use Rattle.controller.specs.Rules.{makeRoster, makePropose, makeTurn, next}
 use Rattle.controller.specs.Storage.{Ready, CountsBits, proposedFrom, TurnsBit, Grows, namedState, Makes}
 use Rattle.controller.specs.Laws.Lists.{keep-length}
@@ -109,11 +109,6 @@ module _ {s : State} {b f : List ℕ} (r : Ready s b f) where
       let v = sound-gives s (r .sound) in
       let none : listed (s .echoes) ≡ [] = v .no-echoes (omega (arith, kind-init (s .round) (v .early) k)) in
       ap (λ (n : Numbers). n .at) (sym (kept s (r .sound) .echoes) ∙ ap stored none)
-
-  -- making round 3 the bit stays: nobody has been king
-  pub first-taken : s .round < 3 → s .bit ≡ bitTaken (view s) (entries b)
-  unfolding bitTaken
-  first-taken h = let none : s .round / 3 ≡ 0 = omega arith in rw none
 
   roster-few : length (roster (view s) (entries b)) ≤ maxNumbers
   unfolding roster

@@ -15,7 +15,7 @@ use Rattle.wire.specs.Numbers.{stored, listed}
 use Rattle.wire.specs.declared.frame.Numbers.{Numbers}
 use Rattle.controller.specs.Lists.{In, mem, insert, Rising}
 use Rattle.controller.specs.Storage.{below, insertedAt, opened}
-use Rattle.controller.specs.Laws.Lists.{true-or-false, out-mem, getD-in, count-none, count-short, count-split, rising-place, mem-in, mem-out}
+use Rattle.controller.specs.Laws.Lists.{true-or-false, out-mem, getD-in, count-none, count-short, count-split, count-inside, rising-no-repeats, rising-place, insert-in, mem-in, mem-out}
 
 -- ---- the place of a number
 
@@ -60,6 +60,11 @@ below-more x y (z ∷ l) h =
     ]
 
 -- ---- a number put in at its place
+
+-- no place moves to the front
+pub below-insert : (x y : ℕ) (l : List ℕ) → Rising l → below y l ≤ below y (insert x l)
+below-insert x y l up =
+    count-inside (λ z. ltb z y) (λ z. ltb z y) l {m = insert x l} (rising-no-repeats l up) (λ z i. insert-in x l .1 (inr i)) (λ z i t. t)
 
 pub insert-place : (x : ℕ) (l : List ℕ) → Rising l → (¬ In x l) → insertedAt (below x l) x l ≡ insert x l
 insert-place x [] up out = refl

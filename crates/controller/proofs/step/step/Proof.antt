@@ -19,14 +19,14 @@ kind-is : (c : tie.After-kind-of) (k : ℕ) → c .kind-of .result ≡ k → kin
 kind-is c k e = sym (c .kind-of .ensures) ∙ e
 
 -- a round after the first whose kind is none of 2, 3, 4
-turns : (c : tie.Else4) → kindOf ((given (c .before .before .before)) .args .fields .round + 1) ≡ 5
+turns : (c : tie.Else3) → kindOf ((given (c .before .before .before)) .args .fields .round + 1) ≡ 5
 turns c =
     let start = given (c .before .before .before) in
     let kind = c .before .before .before .kind-of .ensures in
     let t = start .args .fields .round in
     let early = sound-gives _ (start .pre .0 .sound) .early in
     let range = kind-range (t + 1) in
-    omega (arith, kind, kind-above (t + 1) (omega arith), range .1, c .before .before .if1 .left, c .before .if2 .left, c .if4 .left)
+    omega (arith, kind, kind-above (t + 1) (omega arith), range .1, c .before .before .if1 .left, c .before .if2 .left, c .if3 .left)
 
 add-kind-of : tie.Need-add-kind-of
 add-kind-of c = omega (arith, c .before .before .pre .1)
@@ -39,15 +39,10 @@ make-roster-requires c κs =
     let pre = c .before .before .before .before .before .pre in
     (ready-few (pre .0), pre .1, echoes-empty (pre .0) (kind-is (c .before .before) 2 (c .before .if1 .taken)))
 
-make-first-value-requires : tie.Need-make-first-value-requires
-make-first-value-requires c κs =
-    let kind = c .before .before .before .before .before .before in
-    ((given kind) .pre .0, kind-is kind 3 (c .before .before .before .before .if2 .taken), c .before .before .if3 .taken)
-
 make-value-requires : tie.Need-make-value-requires
 make-value-requires c κs =
-    let kind = c .before .before .before .before .before .before in
-    ((given kind) .pre .0, kind-is kind 3 (c .before .before .before .before .if2 .taken), (given kind) .pre .1)
+    let kind = c .before .before .before .before in
+    ((given kind) .pre .0, kind-is kind 3 (c .before .before .if2 .taken), (given kind) .pre .1)
 
 make-propose-requires : tie.Need-make-propose-requires
 make-propose-requires c κs = let pre = (given (c .before .before .before)) .pre in (ready-few (pre .0), pre .1)
@@ -59,16 +54,13 @@ returns : tie.Need-returns
 returns c = let kind = c .before .before .before in c .make-roster .ensures _ ((given kind) .pre .0) (kind-is kind 2 (c .before .before .if1 .taken))
 
 returns-2 : tie.Need-returns-2
-returns-2 c = c .make-first-value .ensures
+returns-2 c = c .make-value .ensures
 
 returns-3 : tie.Need-returns-3
-returns-3 c = c .make-value .ensures
+returns-3 c = let kind = c .before .before .before .before in c .make-propose .ensures _ _ ((given kind) .pre .0) (kind-is kind 4 (c .before .if3 .taken))
 
 returns-4 : tie.Need-returns-4
-returns-4 c = let kind = c .before .before .before .before in c .make-propose .ensures _ _ ((given kind) .pre .0) (kind-is kind 4 (c .before .if4 .taken))
-
-returns-5 : tie.Need-returns-5
-returns-5 c = c .make-turn .ensures _ _ ((given (c .before .before .before .before)) .pre .0) (turns (c .before))
+returns-4 c = c .make-turn .ensures _ _ ((given (c .before .before .before .before)) .pre .0) (turns (c .before))
 
 pub step-spec : {M : Type 1} → statement M
 step-spec =
@@ -77,12 +69,10 @@ step-spec =
     add-kind-of
     kind-of-requires
     make-roster-requires
-    make-first-value-requires
     make-value-requires
     make-propose-requires
     make-turn-requires
     returns
     returns-2
     returns-3
-    returns-4
-    returns-5)
+    returns-4)

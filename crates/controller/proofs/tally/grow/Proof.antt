@@ -1,58 +1,35 @@
--- `controller::tally::grow` meets its contract: there is room for as many numbers as can be listed.
-use Prim.Native.Nat.{_≤_}
-use mathlib.Core.Path.{refl}
-use native.Mathlib.Omega.{arith}
+-- `controller::tally::grow` meets its contract: the lists made along the received ones are those of the rules, and they are written only where both fit.
 use borrow.Author.Needs.{needs}
 use denote.Ref.{now}
 use Rattle.controller.specs.Fields.{stateOf}
-use Rattle.controller.specs.Laws.Ready.{ready-few}
-use Rattle.controller.specs.Laws.Tally.{echoes-sized}
-use Rattle.controller.specs.Storage.{listedIn}
+use Rattle.controller.specs.Laws.Grow.{sorted-grows, crowded-keeps}
 use Rattle.controller.specs.declared.state.State.{State}
 use Rattle.controller.proofs.tally.grow.Statement.{statement}
 use Rattle.controller.proofs.tally.grow.Tie as tie
 
+-- what the function was given
+abbrev start : tie.After-tally → tie.Start
+start c = c .before .before .before .before .before .before .before
+
 abbrev state : tie.Start → State
 state c = stateOf (c .args .fields) (now (c .args .heard)) (now (c .args .candidates)) (now (c .args .echoes))
 
--- what was given, and that no more is listed than can be
-abbrev given : tie.After-most-listed → tie.Start
-given c = c .before .before
+tally-requires : tie.Need-tally-requires
+tally-requires c κs = search needs
 
-room : (c : tie.After-most-listed) → listedIn (state (given c)) (now (given c .args .tray)) ≤ c .most-listed .result
-room c = c .most-listed .ensures (now (given c .args .candidates)) (now (given c .args .echoes)) (given c .pre)
-
-most-listed-requires : tie.Need-most-listed-requires
-most-listed-requires c κs = let ready = c .before .pre in (ready-few ready, echoes-sized (state (c .before)) (ready .sound) .0)
-
-slice-aggregate-grow-in : tie.Need-slice-aggregate-grow-in
-slice-aggregate-grow-in c = search needs
-
-slice-aggregate-grow-in-2 : tie.Need-slice-aggregate-grow-in-2
-slice-aggregate-grow-in-2 c = search needs
-
-grow-in-requires : tie.Need-grow-in-requires
-grow-in-requires c κs =
-    let at = c .before .before .before .before in
-    (given (at .before) .pre, omega (arith, room (at .before), at .if1 .taken), omega arith, refl)
-
-grow-many-requires : tie.Need-grow-many-requires
-grow-many-requires c κs = given (c .before .before .before) .pre
+no-room-requires : tie.Need-no-room-requires
+no-room-requires c κs = search needs
 
 returns : tie.Need-returns
-returns c = c .before .before .grow-in .ensures
+returns c =
+    let s = start (c .before) in
+    sorted-grows (state s) (now (s .args .tray)) (s .pre .sound) (c .before .tally .ensures) (c .if1 .taken)
 
 returns-2 : tie.Need-returns-2
-returns-2 c = c .grow-many .ensures
+returns-2 c =
+    let at = c .before .before in
+    let s = start at in
+    rw (c .no-room .ensures) (crowded-keeps (state s) (now (s .args .tray)) (s .pre .sound) (at .tally .ensures) (c .before .if1 .left))
 
 pub grow-spec : {M : Type 1} → statement M
-grow-spec =
-    tie.close
-    (tie.spec
-    most-listed-requires
-    slice-aggregate-grow-in
-    slice-aggregate-grow-in-2
-    grow-in-requires
-    grow-many-requires
-    returns
-    returns-2)
+grow-spec = tie.close (tie.spec tally-requires no-room-requires returns returns-2)

@@ -1,4 +1,4 @@
--- `controller::tally::place_from` meets its contract: the place is never behind where the search stands, since a number below x is before it; at the first that is not below x it is there.
+-- `controller::tally::place_from` meets its contract: the place is never behind where the search stands, and is there at the first number not below x.
 use Prim.Native.Nat.{ℕ, _+_, _-_, _≤_, _<_}
 use mathlib.Core.List.{List}
 use mathlib.Core.Path.{_≡_}
@@ -43,9 +43,6 @@ mul-if1 c = search needs
 shared-slice-read-if1 : tie.Need-shared-slice-read-if1 Inv-loop μ-loop
 shared-slice-read-if1 c = search needs
 
-cast-if1 : tie.Need-cast-if1 Inv-loop μ-loop
-cast-if1 c = let h = c .shared-slice-known .given (c .before .before .loop .i) in record { fits = omega arith }
-
 returns : tie.Need-returns Inv-loop μ-loop
 returns c =
     let v = c .before .before .before .loop in
@@ -79,7 +76,6 @@ place-from-spec =
     loop-holds
     mul-if1
     shared-slice-read-if1
-    cast-if1
     returns
     add-i
     loop-less

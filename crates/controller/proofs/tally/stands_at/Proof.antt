@@ -17,9 +17,6 @@ mul-result c = search needs
 shared-slice-read-result : tie.Need-shared-slice-read-result
 shared-slice-read-result c = search needs
 
-cast-result : tie.Need-cast-result
-cast-result c = let h = c .shared-slice-known .given (c .before .before .args .at) in record { fits = omega arith }
-
 returns : tie.Need-returns
 returns c =
     let a = c .before .before .args in
@@ -35,4 +32,4 @@ returns-2 c =
 
 pub stands-at-spec : {M : Type 1} → statement M
 stands-at-spec =
-    tie.close (tie.spec mul-result shared-slice-read-result cast-result returns returns-2)
+    tie.close (tie.spec mul-result shared-slice-read-result returns returns-2)

@@ -1,0 +1,136 @@
+-- `controller::alike::alike` meets its contract: each place passed has the bytes of the first, and neither it nor the first is the own number's.
+use Prim.Native.Nat.{ℕ, _-_, _≤_, _<_}
+use mathlib.Core.Logic.{_≢_}
+use mathlib.Core.Path.{_≡_, sym}
+use native.Mathlib.Decide.{ℕ-discrete}
+use native.Mathlib.Omega.{arith}
+use borrow.Author.Needs.{needs}
+use denote.Ref.{now}
+use lib.ListN.{getD}
+use Rattle.wire.specs.Tray.{place, bytesAt}
+use Rattle.controller.specs.Storage.{Alike}
+use Rattle.controller.proofs.alike.alike.Statement.{statement}
+use Rattle.controller.proofs.alike.alike.Tie as tie
+
+abbrev Inv-loop : tie.InvT-loop
+Inv-loop own tray heard len firsts j i₀ i =
+    (j < i)
+    × (i ≤ len)
+    × ((k : ℕ) → j < k → k < i
+    → (getD heard k 0 ≢ own) × (bytesAt tray (place tray (getD firsts k 0)) ≡ bytesAt tray (place tray (getD firsts j 0))))
+
+abbrev μ-loop : tie.MeasureT-loop
+μ-loop own tray heard len firsts j i₀ i = len - i
+
+abbrev outside : tie.At-loop Inv-loop μ-loop → tie.Start Inv-loop μ-loop
+outside c = c .before .before .before .before .before .before
+
+-- the places passed so far are the answer
+so-far : (c : tie.At-loop Inv-loop μ-loop)
+    → let a = outside c .args in
+    Alike (a .own) (now (a .tray)) (now (a .heard)) (a .len) (now (a .firsts)) (a .j) (c .loop .i - a .j)
+so-far c =
+    let v = c .loop in
+    record {
+      some = omega (arith, v .inv .0);
+      inside = omega (arith, v .inv .0, v .inv .1);
+      same = λ k l u. let t = v .inv .2 k l (omega (arith, v .inv .0)) in (c .before .if1 .left, t .0, t .1);
+    }
+
+mul-if1 : tie.Need-mul-if1 Inv-loop μ-loop
+mul-if1 c = search needs
+
+shared-slice-read-if1 : tie.Need-shared-slice-read-if1 Inv-loop μ-loop
+shared-slice-read-if1 c = search needs
+
+returns : tie.Need-returns Inv-loop μ-loop
+returns c = record { some = omega arith; inside = omega (arith, c .before .before .before .before .before .pre .2); same = λ k l u. absurd (omega arith) }
+
+add-i : tie.Need-add-i Inv-loop μ-loop
+add-i c = search needs
+
+loop-holds : tie.Need-loop-holds Inv-loop μ-loop
+loop-holds c = (omega arith, omega (arith, c .before .before .before .before .before .pre .2), λ k l u. absurd (omega arith))
+
+mul-if2 : tie.Need-mul-if2 Inv-loop μ-loop
+mul-if2 c = search needs
+
+shared-slice-read-if2 : tie.Need-shared-slice-read-if2 Inv-loop μ-loop
+shared-slice-read-if2 c = search needs
+
+sub-result : tie.Need-sub-result Inv-loop μ-loop
+sub-result c = search needs
+
+returns-2 : tie.Need-returns-2 Inv-loop μ-loop
+returns-2 c = so-far (c .before .before .before)
+
+mul-same-entry : tie.Need-mul-same-entry Inv-loop μ-loop
+mul-same-entry c = search needs
+
+shared-slice-read-same-entry : tie.Need-shared-slice-read-same-entry Inv-loop μ-loop
+shared-slice-read-same-entry c = search needs
+
+mul-same-entry-2 : tie.Need-mul-same-entry-2 Inv-loop μ-loop
+mul-same-entry-2 c = search needs
+
+shared-slice-read-same-entry-2 : tie.Need-shared-slice-read-same-entry-2 Inv-loop μ-loop
+shared-slice-read-same-entry-2 c = search needs
+
+same-entry-requires : tie.Need-same-entry-requires Inv-loop μ-loop
+same-entry-requires c κs = search needs
+
+add-i-2 : tie.Need-add-i-2 Inv-loop μ-loop
+add-i-2 c = search needs
+
+loop-less : tie.Need-loop-less Inv-loop μ-loop
+loop-less c = search needs
+
+loop-again : tie.Need-loop-again Inv-loop μ-loop
+loop-again c =
+    let v = c .before .before .before .before .before .before .before .loop in
+    let here = c .before .before .before .before .if2 .left in
+    let same = c .before .same-entry .ensures (c .if3 .taken) in (
+      search needs,
+      search needs,
+      λ k l u. elim (ℕ-discrete k (v .i)) [ yes e ↦ rw e (here, sym same) | no d ↦ v .inv .2 k l (omega arith) ],
+    )
+
+sub-result-2 : tie.Need-sub-result-2 Inv-loop μ-loop
+sub-result-2 c = search needs
+
+returns-3 : tie.Need-returns-3 Inv-loop μ-loop
+returns-3 c = so-far (c .before .before .before .before .before .before .before)
+
+sub-result-3 : tie.Need-sub-result-3 Inv-loop μ-loop
+sub-result-3 c = search needs
+
+returns-4 : tie.Need-returns-4 Inv-loop μ-loop
+returns-4 c = so-far (c .before)
+
+pub alike-spec : {M : Type 1} → statement M
+alike-spec =
+    tie.close
+    (tie.spec
+    Inv-loop
+    μ-loop
+    mul-if1
+    shared-slice-read-if1
+    returns
+    add-i
+    loop-holds
+    mul-if2
+    shared-slice-read-if2
+    sub-result
+    returns-2
+    mul-same-entry
+    shared-slice-read-same-entry
+    mul-same-entry-2
+    shared-slice-read-same-entry-2
+    same-entry-requires
+    add-i-2
+    loop-less
+    loop-again
+    sub-result-2
+    returns-3
+    sub-result-3
+    returns-4)

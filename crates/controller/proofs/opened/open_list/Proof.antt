@@ -1,0 +1,109 @@
+-- `controller::opened::open_list` meets its contract: the weight goes to the own list where the numbers are the same; else the list goes behind the open ones.
+use Prim.Native.Nat.{ℕ}
+use mathlib.Core.Logic.{inl, inr}
+use mathlib.Core.Path.{refl, ap, _∙_}
+use native.Mathlib.Omega.{arith}
+use borrow.Author.Needs.{needs}
+use denote.Ref.{now}
+use lib.ListN.{take}
+use Rattle.controller.proofs.opened.open_list.Statement.{statement}
+use Rattle.controller.proofs.opened.open_list.Tie as tie
+
+slice-read-if1 : tie.Need-slice-read-if1
+slice-read-if1 c = search needs
+
+same-list-requires : tie.Need-same-list-requires
+same-list-requires c κs =
+    let pre = c .before .before .before .before .before .before .before .pre in
+    let same = c .if1 .taken in
+    (pre .8 .low, omega (arith, pre .6), omega (arith, pre .6, pre .7), pre .8 .inside)
+
+slice-read-weights : tie.Need-slice-read-weights
+slice-read-weights c = search needs
+
+add-weights : tie.Need-add-weights
+add-weights c = search needs
+
+slice-write-weights : tie.Need-slice-write-weights
+slice-write-weights c = search needs
+
+same-length : tie.Need-same-length
+same-length c = search needs
+
+returns : tie.Need-returns
+returns c =
+    let equal = c .before .before in
+    let a = equal .before .before .before .before .before .before .before .before .args in
+    inl (record {
+      same = equal .same-list .ensures (c .before .if2 .taken) ∙ ap (λ (n : ℕ). take n (now (a .own))) (equal .before .if1 .taken);
+      starts = refl;
+      counts = refl;
+      weights = refl;
+      more = refl;
+    })
+
+mul-starts : tie.Need-mul-starts
+mul-starts c = search needs
+
+slice-write-starts : tie.Need-slice-write-starts
+slice-write-starts c = search needs
+
+mul-counts : tie.Need-mul-counts
+mul-counts c = search needs
+
+slice-write-counts : tie.Need-slice-write-counts
+slice-write-counts c = search needs
+
+mul-weights : tie.Need-mul-weights
+mul-weights c = search needs
+
+slice-write-weights-2 : tie.Need-slice-write-weights-2
+slice-write-weights-2 c = search needs
+
+add-result : tie.Need-add-result
+add-result c = search needs
+
+same-length-2 : tie.Need-same-length-2
+same-length-2 c = search needs
+
+same-length-3 : tie.Need-same-length-3
+same-length-3 c = search needs
+
+same-length-4 : tie.Need-same-length-4
+same-length-4 c = search needs
+
+returns-2 : tie.Need-returns-2
+returns-2 c =
+    let start = c .before .before .before .before .before .before .before in
+    inr (record {
+      start = start .args .list .start;
+      count = start .args .list .count;
+      span = start .pre .8;
+      starts = refl;
+      counts = refl;
+      weights = refl;
+      more = refl;
+    })
+
+pub open-list-spec : {M : Type 1} → statement M
+open-list-spec =
+    tie.close
+    (tie.spec
+    slice-read-if1
+    same-list-requires
+    slice-read-weights
+    add-weights
+    slice-write-weights
+    same-length
+    returns
+    mul-starts
+    slice-write-starts
+    mul-counts
+    slice-write-counts
+    mul-weights
+    slice-write-weights-2
+    add-result
+    same-length-2
+    same-length-3
+    same-length-4
+    returns-2)

@@ -1,0 +1,113 @@
+-- `controller::opened::open_received` meets its contract: under the own number the own list is received, which is open; under another the list of its entry.
+use Prim.Native.Nat.{ℕ}
+use mathlib.Core.Bool.{Bool, true, false, cond}
+use mathlib.Core.List.{List, []}
+use mathlib.Core.Logic.{_≢_, inl}
+use mathlib.Core.Path.{_≡_, refl, sym, ap, _∙_}
+use native.Mathlib.Omega.{arith}
+use borrow.Author.Needs.{needs}
+use borrow.Author.Tests.{eq-eqb, ne-eqb}
+use denote.Ref.{now}
+use lib.Dec.{ltb}
+use lib.ListN.{take}
+use Rattle.wire.specs.Frame.{kindOf, maxCount}
+use Rattle.wire.specs.Tray.{place, bytesAt}
+use Rattle.wire.specs.Words.{wordsAt}
+use Rattle.controller.specs.Received.{readIn, listIn}
+use Rattle.controller.specs.Storage.{listUnder}
+use Rattle.controller.specs.Walk.{SpanOf, sentCount}
+use Rattle.controller.specs.declared.state.Fields.{Fields}
+use Rattle.controller.proofs.opened.open_received.Statement.{statement}
+use Rattle.controller.proofs.opened.open_received.Tie as tie
+
+module _ (f : Fields) (e b : List ℕ) (x i : ℕ) where
+  oneself : x ≡ f .own → listUnder f e b x i ≡ take (sentCount f) e
+  oneself same = rw (eq-eqb x (f .own) same) (pick (ltb 0 (maxCount (kindOf (f .round)))))
+    where
+      pick : (t : Bool) → cond t (take (f .echoes) e) [] ≡ take (cond t (f .echoes) 0) e
+      pick true = refl
+      pick false = refl
+
+  another : x ≢ f .own → listIn (readIn (f .round) (bytesAt b (place b i))) ≡ listUnder f e b x i
+  another d = rw (ne-eqb x (f .own) d)
+
+-- what lies at a place has the numbers that are read there
+span-words : {b l : List ℕ} {start count : ℕ} → SpanOf b l start count → SpanOf b (wordsAt b start count) start count
+span-words span = record { is = refl; low = span .low; inside = span .inside }
+
+slice-read-weights : tie.Need-slice-read-weights
+slice-read-weights c = search needs
+
+add-weights : tie.Need-add-weights
+add-weights c = search needs
+
+slice-write-weights : tie.Need-slice-write-weights
+slice-write-weights c = search needs
+
+same-length : tie.Need-same-length
+same-length c = search needs
+
+returns : tie.Need-returns
+returns c =
+    let start = c .before .before .before .before .before .before .before .before in
+    let a = start .args in
+    inl (record {
+      same =
+          oneself (a .fields) (now (a .own)) (now (a .tray)) (a .x) (a .entry) (c .before .if1 .taken)
+          ∙ ap (λ (n : ℕ). take n (now (a .own))) (sym (start .pre .6));
+      starts = refl;
+      counts = refl;
+      weights = refl;
+      more = refl;
+    })
+
+list-of-requires : tie.Need-list-of-requires
+list-of-requires c κs = search needs
+
+open-list-requires : tie.Need-open-list-requires
+open-list-requires c κs =
+    let found = c .before .before .before in
+    let pre = found .before .before .before .before .before .before .before .before .pre in (
+      pre .0,
+      pre .1,
+      pre .2,
+      pre .3,
+      pre .4,
+      pre .5,
+      omega (arith, pre .6, pre .7),
+      pre .8,
+      span-words (found .list-of .ensures),
+    )
+
+same-length-2 : tie.Need-same-length-2
+same-length-2 c = search needs
+
+same-length-3 : tie.Need-same-length-3
+same-length-3 c = search needs
+
+same-length-4 : tie.Need-same-length-4
+same-length-4 c = search needs
+
+returns-2 : tie.Need-returns-2
+returns-2 c =
+    let opened = c .before .before .before .before .before .before in
+    let found = opened .before .before .before .before in
+    let a = found .before .before .before .before .before .before .before .before .args in
+    let list = found .list-of .ensures .is ∙ another (a .fields) (now (a .own)) (now (a .tray)) (a .x) (a .entry) (found .before .if1 .left) in
+    rw list at (opened .open-list .ensures)
+
+pub open-received-spec : {M : Type 1} → statement M
+open-received-spec =
+    tie.close
+    (tie.spec
+    slice-read-weights
+    add-weights
+    slice-write-weights
+    same-length
+    returns
+    list-of-requires
+    open-list-requires
+    same-length-2
+    same-length-3
+    same-length-4
+    returns-2)

@@ -1,0 +1,94 @@
+-- `controller::tally::tally` meets its contract: the open lists count as the received ones do, so that what is sorted along them is sorted by the tally.
+use Prim.Native.Nat.{ℕ}
+use mathlib.Core.List.{[]}
+use mathlib.Core.Path.{_≡_, refl, _∙_}
+use native.Mathlib.Omega.{arith}
+use borrow.Author.Needs.{needs}
+use denote.Ref.{now}
+use Rattle.wire.specs.Tray.{entries}
+use Rattle.controller.specs.Fields.{stateOf}
+use Rattle.controller.specs.Rotation.{tally}
+use Rattle.controller.specs.State.{view}
+use Rattle.controller.specs.Walk.{weighed}
+use Rattle.controller.specs.Laws.Opened.{tally-else}
+use Rattle.controller.specs.Laws.Ready.{ready-size, ready-few}
+use Rattle.controller.specs.Laws.Received.{heard-some}
+use Rattle.controller.specs.Laws.State.{sound-gives, sound-candidates}
+use Rattle.controller.specs.declared.state.State.{State}
+use Rattle.controller.proofs.tally.tally.Statement.{statement}
+use Rattle.controller.proofs.tally.tally.Tie as tie
+
+-- what the function was given, and where the lists are open
+abbrev start : tie.After-open-lists → tie.Start
+start c = c .before .before .before .before .before .before
+
+abbrev opened : tie.After-walk → tie.After-open-lists
+opened c = c .before .before .before .before .before .before .before .before .before
+
+abbrev state : tie.Start → State
+state c = stateOf (c .args .fields) (now (c .args .heard)) (now (c .args .candidates)) (now (c .args .own))
+
+-- how many sent an open list with a number
+abbrev count : tie.After-open-lists → ℕ → ℕ
+count c =
+    weighed (now (start c .args .own)) (now (start c .args .tray)) (c .open-lists .last .1 .1 .1 .1 .1 .0) (c .open-lists .last .1 .1 .1 .1 .1 .1 .0)
+    (c .open-lists .last .1 .1 .1 .1 .1 .1 .1 .0) (c .open-lists .result)
+
+counts : (c : tie.After-open-lists) → count c ≡ tally (view (state (start c))) (entries (now (start c .args .tray)))
+counts c i x =
+    let a = start c .args in
+    (c .open-lists .ensures .counted x ∙ tally-else (a .fields) (now (a .heard)) [] (now (a .candidates)) (now (a .own)) (entries (now (a .tray))) x) i
+
+slice-aggregate-open-lists : tie.Need-slice-aggregate-open-lists
+slice-aggregate-open-lists c = search needs
+
+slice-aggregate-open-lists-2 : tie.Need-slice-aggregate-open-lists-2
+slice-aggregate-open-lists-2 c = search needs
+
+slice-aggregate-open-lists-3 : tie.Need-slice-aggregate-open-lists-3
+slice-aggregate-open-lists-3 c = search needs
+
+open-lists-requires : tie.Need-open-lists-requires
+open-lists-requires c κs =
+    let s = c .before .before .before .before .before in
+    record { candidates = now (s .args .candidates); ready = s .pre .0; starts = refl; counts = refl; weights = refl; first = refl; fresh = refl }
+
+slice-aggregate-walk : tie.Need-slice-aggregate-walk
+slice-aggregate-walk c = search needs
+
+slice-aggregate-walk-2 : tie.Need-slice-aggregate-walk-2
+slice-aggregate-walk-2 c = search needs
+
+slice-aggregate-walk-3 : tie.Need-slice-aggregate-walk-3
+slice-aggregate-walk-3 c = search needs
+
+walk-requires : tie.Need-walk-requires
+walk-requires c κs =
+    let at = c .before .before .before .before .before .before .before .before in
+    let s = start at in
+    record {
+      opens = at .open-lists .ensures .opens;
+      most = ready-few (s .pre .0);
+      some = omega (arith, ready-size (s .pre .0), heard-some (view (state s)) (entries (now (s .args .tray))) (sound-gives (state s) (s .pre .0 .sound)));
+      empty = s .pre .1;
+      candidates = sound-candidates (state s) (s .pre .0 .sound);
+    }
+
+returns : tie.Need-returns
+returns c =
+    let at = opened c in
+    rw (← counts at, ← ready-size (start at .pre .0)) (c .walk .ensures)
+
+pub tally-spec : {M : Type 1} → statement M
+tally-spec =
+    tie.close
+    (tie.spec
+    slice-aggregate-open-lists
+    slice-aggregate-open-lists-2
+    slice-aggregate-open-lists-3
+    open-lists-requires
+    slice-aggregate-walk
+    slice-aggregate-walk-2
+    slice-aggregate-walk-3
+    walk-requires
+    returns)

@@ -1,0 +1,146 @@
+// The heads of the open lists, and passing a number in all of them. A list's head with the list's place is one number, its key; the keys are the leaves
+// of a tree in which each node is the lesser of the two below it, so that node 1 is the least head and says whose it is. With `len` lists the leaves are
+// the nodes from `len` on, and the two nodes below node i are 2i and 2i + 1.
+ghost use mathlib.Core.List.{List};
+ghost use mathlib.Core.Path.{_≡_};
+ghost use Prim.Native.Nat.{ℕ, _*_, _/_, _≤_, _<_};
+ghost use lib.ListN.{length, getD};
+ghost use Rattle.controller.specs.Walk.{endMark, maxLists, openList, Lies, Opens, keyOf, Standing, Moves, lesserOf, siblingOf, Ordered, Roomy, Passes};
+use crate::opened::number_in;
+
+// Keys are number * SLOTS + list.
+pub(crate) const SLOTS: usize = 128;
+
+// What passing a number tells: how many sent a list with it, and the key of the next one.
+pub(crate) struct Passed {
+    pub count: usize,
+    pub first: usize,
+}
+
+// The lesser of two keys. A choice of its own, so that it costs no jump.
+fn lesser(x: usize, y: usize) -> usize
+    ensures { λ r. ⌜ r ≡ lesserOf x y ⌝ }
+{
+    if x < y { x } else { y }
+}
+
+fn sibling(i: usize) -> usize
+    requires { ⌜ i < 2 * maxLists ⌝ }
+    ensures { λ r. ⌜ r ≡ siblingOf i ⌝ }
+{
+    if i % 2 == 0 { i + 1 } else { i - 1 }
+}
+
+// The key of place `i` of list `j`.
+fn key_at(own: &[u32], tray: &[u8], starts: &[usize], counts: &[usize], j: usize, i: usize) -> usize
+    requires { ⌜ (j < maxLists) × (length (now starts) ≡ maxLists) × (length (now counts) ≡ maxLists)
+        × Lies (now own) (now tray) j (getD (now starts) j 0) (getD (now counts) j 0) ⌝ }
+    ensures { λ r. ⌜ r ≡ keyOf j (getD (openList (now (own .entry)) (now (tray .entry)) (now (starts .entry)) (now (counts .entry)) j) i endMark) ⌝ }
+{
+    number_in(own, tray, j, starts[j], counts[j], i) * SLOTS + j
+}
+
+// Moves list `j` on: the key behind its head becomes its leaf. The one behind that is read now, since by the time that it is needed it must be there.
+fn move_on(
+    own: &[u32],
+    tray: &[u8],
+    starts: &[usize],
+    counts: &[usize],
+    len: usize,
+    j: usize,
+    tree: &mut [usize],
+    nexts: &mut [usize],
+    places: &mut [usize],
+) -> usize
+    requires { ⌜ (j < len) × (len ≤ maxLists) × (length (now starts) ≡ maxLists) × (length (now counts) ≡ maxLists)
+        × Lies (now own) (now tray) j (getD (now starts) j 0) (getD (now counts) j 0) × Roomy (now tree) (now nexts) (now places)
+        × (getD (now places) j 0 ≤ maxLists) ⌝ }
+    ensures { λ r. ⌜ Moves (openList (now (own .entry)) (now (tray .entry)) (now (starts .entry)) (now (counts .entry)) j) len j (now (tree .entry))
+        (now (nexts .entry)) (now (places .entry)) r (now (tree .exit)) (now (nexts .exit)) (now (places .exit)) ⌝ }
+{
+    let key = nexts[j];
+    let i = places[j] + 1;
+    tree[len + j] = key;
+    places[j] = i;
+    nexts[j] = key_at(own, tray, starts, counts, j, i);
+    key
+}
+
+// Makes the inner nodes of a tree from its leaves.
+fn build(tree: &mut [usize], len: usize)
+    requires { ⌜ (0 < len) × (2 * len ≤ length (now tree)) ⌝ }
+    ensures { λ r. ⌜ Ordered (now (tree .exit)) len × ((p : ℕ) → len ≤ p → getD (now (tree .exit)) p 0 ≡ getD (now (tree .entry)) p 0) ⌝ }
+{
+    let mut i = len;
+    while 1 < i {
+        i -= 1;
+        tree[i] = lesser(tree[2 * i], tree[2 * i + 1]);
+    }
+}
+
+// Puts the first keys of all lists into the tree, and the second ones behind them.
+pub(crate) fn line_up(
+    own: &[u32],
+    tray: &[u8],
+    starts: &[usize],
+    counts: &[usize],
+    len: usize,
+    tree: &mut [usize],
+    nexts: &mut [usize],
+    places: &mut [usize],
+)
+    requires { ⌜ ((w : List ℕ) × Opens (now own) (now tray) (now starts) (now counts) w len) × Roomy (now tree) (now nexts) (now places) ⌝ }
+    ensures { λ r. ⌜ Ordered (now (tree .exit)) len
+        × Standing (now (own .entry)) (now (tray .entry)) (now (starts .entry)) (now (counts .entry)) len 0 (now (tree .exit)) (now (nexts .exit))
+        (now (places .exit)) ⌝ }
+{
+    let mut j = 0;
+    while j < len {
+        tree[len + j] = key_at(own, tray, starts, counts, j, 0);
+        nexts[j] = key_at(own, tray, starts, counts, j, 1);
+        places[j] = 1;
+        j += 1;
+    }
+    build(tree, len);
+}
+
+// Passes the number of the first key in every list that has it. From the leaf of a list that moved on the way goes up, each node on it made anew; where
+// the node beside it has the number too, a list below that one is next, and the nodes above both wait until it has moved on.
+pub(crate) fn pass(
+    own: &[u32],
+    tray: &[u8],
+    starts: &[usize],
+    counts: &[usize],
+    weights: &[usize],
+    len: usize,
+    first: usize,
+    tree: &mut [usize],
+    nexts: &mut [usize],
+    places: &mut [usize],
+) -> Passed
+    requires { ⌜ Opens (now own) (now tray) (now starts) (now counts) (now weights) len × Roomy (now tree) (now nexts) (now places)
+        × (first ≡ getD (now tree) 1 0) × (first / 128 < endMark) × Ordered (now tree) len
+        × Standing (now own) (now tray) (now starts) (now counts) len (first / 128) (now tree) (now nexts) (now places) ⌝ }
+    ensures { λ r. ⌜ Passes (now (own .entry)) (now (tray .entry)) (now (starts .entry)) (now (counts .entry)) (now (weights .entry)) len
+        (first / 128) r (now (tree .exit)) (now (nexts .exit)) (now (places .exit)) ⌝ }
+{
+    let limit = (first / SLOTS + 1) * SLOTS;
+    let mut j = first % SLOTS;
+    let mut count = weights[j];
+    let mut key = move_on(own, tray, starts, counts, len, j, tree, nexts, places);
+    let mut i = len + j;
+    while 1 < i {
+        let other = tree[sibling(i)];
+        if other < limit {
+            j = other % SLOTS;
+            count += weights[j];
+            key = move_on(own, tray, starts, counts, len, j, tree, nexts, places);
+            i = len + j;
+        } else {
+            key = lesser(key, other);
+            i /= 2;
+            tree[i] = key;
+        }
+    }
+    Passed { count, first: key }
+}

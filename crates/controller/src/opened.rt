@@ -1,0 +1,185 @@
+// The received lists, opened for the tally: where each lies, how many numbers it has, and how many controllers sent it. The first is the own one, in
+// the state; the others are read where they lie in the tray.
+ghost use mathlib.Core.Bool.{true};
+ghost use mathlib.Core.List.{[]};
+ghost use mathlib.Core.Path.{_≡_};
+ghost use Prim.Native.Nat.{ℕ, _+_, _*_, _≤_, _<_};
+ghost use lib.ListN.{length, getD, take};
+ghost use Rattle.wire.specs.Limits.{maxNumbers};
+ghost use Rattle.wire.specs.Tray.{place, bytesAt};
+ghost use Rattle.wire.specs.Words.{wordsAt};
+ghost use Rattle.controller.specs.Fields.{stateOf};
+ghost use Rattle.controller.specs.Received.{readIn, listIn};
+ghost use Rattle.controller.specs.Storage.{listUnder};
+ghost use Rattle.controller.specs.Walk.{endMark, maxLists, listFrom, Lies, SpanOf, Adds, sentCount, Openable, OpensAll};
+use crate::alike::alike;
+use crate::received::sent_count;
+use crate::state::Fields;
+use wire::frame::read_count;
+use wire::frame::read_number;
+use wire::limits::FRAME_HEADER;
+use wire::limits::MAX_NUMBERS;
+use wire::limits::NUMBER_WIDTH;
+use wire::tray::Found;
+use wire::tray::entry_place;
+use wire::tray::part_of;
+
+// Above every number: what stands behind a list's last one.
+pub(crate) const END: usize = 4294967296;
+// The own list, and one for each number heard.
+pub(crate) const MAX_LISTS: usize = 65;
+
+// Where a list lies in the tray, and how many numbers it has.
+pub(crate) struct Span {
+    pub start: usize,
+    pub count: usize,
+}
+
+// The list of an entry's frame; an empty one where the frame is void or there is no such entry.
+fn list_of(tray: &[u8], entry: usize, round: u32) -> Span
+    ensures { λ r. ⌜ SpanOf (now (tray .entry)) (listIn (readIn round (bytesAt (now (tray .entry)) (place (now (tray .entry)) entry)))) (r .start)
+        (r .count) ⌝ }
+{
+    let found = entry_place(tray, entry);
+    match found {
+        Found::At(offset, len) => Span {
+            start: offset + FRAME_HEADER,
+            count: read_count(part_of(tray, offset, len), round),
+        },
+        Found::Nothing => Span { start: 0, count: 0 },
+    }
+}
+
+// Whether the list that lies at a place of the tray has the numbers of the own list.
+fn same_list(tray: &[u8], start: usize, own: &[u32], count: usize) -> bool
+    requires { ⌜ (start < 65552) × (count ≤ maxNumbers) × (count ≤ length (now own)) × ((i : ℕ) → i < count → start + 4 * i + 4 ≤ length (now tray)) ⌝ }
+    ensures { λ r. ⌜ (r ≡ true → wordsAt (now (tray .entry)) start count ≡ take count (now (own .entry))) ⌝ }
+{
+    let mut i = 0;
+    while i < count {
+        if read_number(tray, start + NUMBER_WIDTH * i) != own[i] {
+            return false;
+        }
+        i += 1;
+    }
+    true
+}
+
+// The number at place `i` of list `j`; `END` behind its last one.
+pub(crate) fn number_in(
+    own: &[u32],
+    tray: &[u8],
+    j: usize,
+    start: usize,
+    count: usize,
+    i: usize,
+) -> usize
+    requires { ⌜ Lies (now own) (now tray) j start count ⌝ }
+    ensures { λ r. ⌜ (r ≡ getD (listFrom (now (own .entry)) (now (tray .entry)) j start count) i endMark) × (r ≤ endMark) ⌝ }
+{
+    if i < count {
+        if j == 0 {
+            own[i] as usize
+        } else {
+            read_number(tray, start + NUMBER_WIDTH * i) as usize
+        }
+    } else {
+        END
+    }
+}
+
+// Opens a list that `weight` controllers sent, behind the `len` open ones. One that is equal to the own list is counted with that one instead.
+fn open_list(
+    own: &[u32],
+    tray: &[u8],
+    list: Span,
+    weight: usize,
+    starts: &mut [usize],
+    counts: &mut [usize],
+    weights: &mut [usize],
+    len: usize,
+) -> usize
+    requires { ⌜ (len < maxLists) × (length (now starts) ≡ maxLists) × (length (now counts) ≡ maxLists) × (length (now weights) ≡ maxLists)
+        × (getD (now weights) 0 0 ≤ maxNumbers) × (weight ≤ maxNumbers) × (getD (now counts) 0 0 ≤ maxNumbers) × (maxNumbers ≤ length (now own))
+        × SpanOf (now tray) (wordsAt (now tray) (list .start) (list .count)) (list .start) (list .count) ⌝ }
+    ensures { λ r. ⌜ Adds (now (own .entry)) (now (tray .entry)) (wordsAt (now (tray .entry)) (list .start) (list .count)) weight len
+        (now (starts .entry)) (now (counts .entry)) (now (weights .entry)) (now (starts .exit)) (now (counts .exit)) (now (weights .exit)) r ⌝ }
+{
+    let start = list.start;
+    let count = list.count;
+    if count == counts[0] {
+        if same_list(tray, start, own, count) {
+            weights[0] += weight;
+            return len;
+        }
+    }
+    starts[len] = start;
+    counts[len] = count;
+    weights[len] = weight;
+    len + 1
+}
+
+// Opens the list received under the number `x`, whose first entry is `entry`, and which `weight` controllers sent.
+fn open_received(
+    fields: Fields,
+    own: &[u32],
+    tray: &[u8],
+    x: u32,
+    entry: usize,
+    weight: usize,
+    starts: &mut [usize],
+    counts: &mut [usize],
+    weights: &mut [usize],
+    len: usize,
+) -> usize
+    requires { ⌜ (len < maxLists) × (length (now starts) ≡ maxLists) × (length (now counts) ≡ maxLists) × (length (now weights) ≡ maxLists)
+        × (getD (now weights) 0 0 ≤ maxNumbers) × (weight ≤ maxNumbers) × (getD (now counts) 0 0 ≡ sentCount fields)
+        × (sentCount fields ≤ maxNumbers) × (maxNumbers ≤ length (now own)) ⌝ }
+    ensures { λ r. ⌜ Adds (now (own .entry)) (now (tray .entry)) (listUnder fields (now (own .entry)) (now (tray .entry)) x entry) weight len
+        (now (starts .entry)) (now (counts .entry)) (now (weights .entry)) (now (starts .exit)) (now (counts .exit)) (now (weights .exit)) r ⌝ }
+{
+    if x == fields.own {
+        weights[0] += weight;
+        return len;
+    }
+    let list = list_of(tray, entry, fields.round);
+    open_list(own, tray, list, weight, starts, counts, weights, len)
+}
+
+// Opens the list received under each heard number, and returns how many are open. Equal lists that follow each other are opened once, and those
+// that are equal to the own one not at all.
+pub(crate) fn open_lists(
+    fields: Fields,
+    heard: &[u32; MAX_NUMBERS],
+    own: &[u32],
+    tray: &[u8],
+    firsts: &[usize; MAX_NUMBERS],
+    starts: &mut [usize],
+    counts: &mut [usize],
+    weights: &mut [usize],
+) -> usize
+    requires { ⌜ Openable fields (now heard) (now own) (now tray) (now firsts) (now starts) (now counts) (now weights) ⌝ }
+    ensures { λ r. ⌜ OpensAll (stateOf fields (now (heard .entry)) [] (now (own .entry))) (now (tray .entry)) (now (starts .exit))
+        (now (counts .exit)) (now (weights .exit)) r ⌝ }
+{
+    counts[0] = sent_count(fields);
+    let mut len = 1;
+    let mut j = 0;
+    while j < fields.heard {
+        let weight = alike(fields.own, tray, heard, fields.heard, firsts, j);
+        len = open_received(
+            fields,
+            own,
+            tray,
+            heard[j],
+            firsts[j],
+            weight,
+            starts,
+            counts,
+            weights,
+            len,
+        );
+        j += weight;
+    }
+    len
+}
