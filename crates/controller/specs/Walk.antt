@@ -68,6 +68,7 @@ endMark = 4294967296
 abbrev pub maxLists : ℕ
 maxLists = 65
 
+-- an offset is two bytes long, and a frame's header follows: no sum of places wraps
 pub record SpanOf (b l : List ℕ) (start count : ℕ) : Type 0 where
   pub is : wordsAt b start count ≡ l
   pub low : start < 65552

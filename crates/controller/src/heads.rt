@@ -40,7 +40,8 @@ fn key_at(own: &[u32], tray: &[u8], starts: &[usize], counts: &[usize], j: usize
     number_in(own, tray, j, starts[j], counts[j], i) * SLOTS + j
 }
 
-// Moves list `j` on: the key behind its head becomes its leaf. The one behind that is read now, since by the time that it is needed it must be there.
+// Moves list `j` on: the key behind its head becomes its leaf. The one behind that is read ahead, so that nothing waits for it when the list moves on
+// again.
 fn move_on(
     own: &[u32],
     tray: &[u8],
@@ -50,18 +51,18 @@ fn move_on(
     j: usize,
     tree: &mut [usize],
     nexts: &mut [usize],
-    places: &mut [usize],
+    at: &mut [usize],
 ) -> usize
     requires { ⌜ (j < len) × (len ≤ maxLists) × (length (now starts) ≡ maxLists) × (length (now counts) ≡ maxLists)
-        × Lies (now own) (now tray) j (getD (now starts) j 0) (getD (now counts) j 0) × Roomy (now tree) (now nexts) (now places)
-        × (getD (now places) j 0 ≤ maxLists) ⌝ }
+        × Lies (now own) (now tray) j (getD (now starts) j 0) (getD (now counts) j 0) × Roomy (now tree) (now nexts) (now at)
+        × (getD (now at) j 0 ≤ maxLists) ⌝ }
     ensures { λ r. ⌜ Moves (openList (now (own .entry)) (now (tray .entry)) (now (starts .entry)) (now (counts .entry)) j) len j (now (tree .entry))
-        (now (nexts .entry)) (now (places .entry)) r (now (tree .exit)) (now (nexts .exit)) (now (places .exit)) ⌝ }
+        (now (nexts .entry)) (now (at .entry)) r (now (tree .exit)) (now (nexts .exit)) (now (at .exit)) ⌝ }
 {
     let key = nexts[j];
-    let i = places[j] + 1;
+    let i = at[j] + 1;
     tree[len + j] = key;
-    places[j] = i;
+    at[j] = i;
     nexts[j] = key_at(own, tray, starts, counts, j, i);
     key
 }
@@ -87,18 +88,18 @@ pub(crate) fn line_up(
     len: usize,
     tree: &mut [usize],
     nexts: &mut [usize],
-    places: &mut [usize],
+    at: &mut [usize],
 )
-    requires { ⌜ ((w : List ℕ) × Opens (now own) (now tray) (now starts) (now counts) w len) × Roomy (now tree) (now nexts) (now places) ⌝ }
+    requires { ⌜ ((w : List ℕ) × Opens (now own) (now tray) (now starts) (now counts) w len) × Roomy (now tree) (now nexts) (now at) ⌝ }
     ensures { λ r. ⌜ Ordered (now (tree .exit)) len
         × Standing (now (own .entry)) (now (tray .entry)) (now (starts .entry)) (now (counts .entry)) len 0 (now (tree .exit)) (now (nexts .exit))
-        (now (places .exit)) ⌝ }
+        (now (at .exit)) ⌝ }
 {
     let mut j = 0;
     while j < len {
         tree[len + j] = key_at(own, tray, starts, counts, j, 0);
         nexts[j] = key_at(own, tray, starts, counts, j, 1);
-        places[j] = 1;
+        at[j] = 1;
         j += 1;
     }
     build(tree, len);
@@ -111,30 +112,30 @@ pub(crate) fn pass(
     tray: &[u8],
     starts: &[usize],
     counts: &[usize],
-    weights: &[usize],
+    sent: &[usize],
     len: usize,
     first: usize,
     tree: &mut [usize],
     nexts: &mut [usize],
-    places: &mut [usize],
+    at: &mut [usize],
 ) -> Passed
-    requires { ⌜ Opens (now own) (now tray) (now starts) (now counts) (now weights) len × Roomy (now tree) (now nexts) (now places)
+    requires { ⌜ Opens (now own) (now tray) (now starts) (now counts) (now sent) len × Roomy (now tree) (now nexts) (now at)
         × (first ≡ getD (now tree) 1 0) × (first / 128 < endMark) × Ordered (now tree) len
-        × Standing (now own) (now tray) (now starts) (now counts) len (first / 128) (now tree) (now nexts) (now places) ⌝ }
-    ensures { λ r. ⌜ Passes (now (own .entry)) (now (tray .entry)) (now (starts .entry)) (now (counts .entry)) (now (weights .entry)) len
-        (first / 128) r (now (tree .exit)) (now (nexts .exit)) (now (places .exit)) ⌝ }
+        × Standing (now own) (now tray) (now starts) (now counts) len (first / 128) (now tree) (now nexts) (now at) ⌝ }
+    ensures { λ r. ⌜ Passes (now (own .entry)) (now (tray .entry)) (now (starts .entry)) (now (counts .entry)) (now (sent .entry)) len
+        (first / 128) r (now (tree .exit)) (now (nexts .exit)) (now (at .exit)) ⌝ }
 {
     let limit = (first / SLOTS + 1) * SLOTS;
     let mut j = first % SLOTS;
-    let mut count = weights[j];
-    let mut key = move_on(own, tray, starts, counts, len, j, tree, nexts, places);
+    let mut count = sent[j];
+    let mut key = move_on(own, tray, starts, counts, len, j, tree, nexts, at);
     let mut i = len + j;
     while 1 < i {
         let other = tree[sibling(i)];
         if other < limit {
             j = other % SLOTS;
-            count += weights[j];
-            key = move_on(own, tray, starts, counts, len, j, tree, nexts, places);
+            count += sent[j];
+            key = move_on(own, tray, starts, counts, len, j, tree, nexts, at);
             i = len + j;
         } else {
             key = lesser(key, other);

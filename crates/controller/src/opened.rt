@@ -96,26 +96,26 @@ fn open_list(
     weight: usize,
     starts: &mut [usize],
     counts: &mut [usize],
-    weights: &mut [usize],
+    sent: &mut [usize],
     len: usize,
 ) -> usize
-    requires { ⌜ (len < maxLists) × (length (now starts) ≡ maxLists) × (length (now counts) ≡ maxLists) × (length (now weights) ≡ maxLists)
-        × (getD (now weights) 0 0 ≤ maxNumbers) × (weight ≤ maxNumbers) × (getD (now counts) 0 0 ≤ maxNumbers) × (maxNumbers ≤ length (now own))
+    requires { ⌜ (len < maxLists) × (length (now starts) ≡ maxLists) × (length (now counts) ≡ maxLists) × (length (now sent) ≡ maxLists)
+        × (getD (now sent) 0 0 ≤ maxNumbers) × (weight ≤ maxNumbers) × (getD (now counts) 0 0 ≤ maxNumbers) × (maxNumbers ≤ length (now own))
         × SpanOf (now tray) (wordsAt (now tray) (list .start) (list .count)) (list .start) (list .count) ⌝ }
     ensures { λ r. ⌜ Adds (now (own .entry)) (now (tray .entry)) (wordsAt (now (tray .entry)) (list .start) (list .count)) weight len
-        (now (starts .entry)) (now (counts .entry)) (now (weights .entry)) (now (starts .exit)) (now (counts .exit)) (now (weights .exit)) r ⌝ }
+        (now (starts .entry)) (now (counts .entry)) (now (sent .entry)) (now (starts .exit)) (now (counts .exit)) (now (sent .exit)) r ⌝ }
 {
     let start = list.start;
     let count = list.count;
     if count == counts[0] {
         if same_list(tray, start, own, count) {
-            weights[0] += weight;
+            sent[0] += weight;
             return len;
         }
     }
     starts[len] = start;
     counts[len] = count;
-    weights[len] = weight;
+    sent[len] = weight;
     len + 1
 }
 
@@ -129,21 +129,21 @@ fn open_received(
     weight: usize,
     starts: &mut [usize],
     counts: &mut [usize],
-    weights: &mut [usize],
+    sent: &mut [usize],
     len: usize,
 ) -> usize
-    requires { ⌜ (len < maxLists) × (length (now starts) ≡ maxLists) × (length (now counts) ≡ maxLists) × (length (now weights) ≡ maxLists)
-        × (getD (now weights) 0 0 ≤ maxNumbers) × (weight ≤ maxNumbers) × (getD (now counts) 0 0 ≡ sentCount fields)
+    requires { ⌜ (len < maxLists) × (length (now starts) ≡ maxLists) × (length (now counts) ≡ maxLists) × (length (now sent) ≡ maxLists)
+        × (getD (now sent) 0 0 ≤ maxNumbers) × (weight ≤ maxNumbers) × (getD (now counts) 0 0 ≡ sentCount fields)
         × (sentCount fields ≤ maxNumbers) × (maxNumbers ≤ length (now own)) ⌝ }
     ensures { λ r. ⌜ Adds (now (own .entry)) (now (tray .entry)) (listUnder fields (now (own .entry)) (now (tray .entry)) x entry) weight len
-        (now (starts .entry)) (now (counts .entry)) (now (weights .entry)) (now (starts .exit)) (now (counts .exit)) (now (weights .exit)) r ⌝ }
+        (now (starts .entry)) (now (counts .entry)) (now (sent .entry)) (now (starts .exit)) (now (counts .exit)) (now (sent .exit)) r ⌝ }
 {
     if x == fields.own {
-        weights[0] += weight;
+        sent[0] += weight;
         return len;
     }
     let list = list_of(tray, entry, fields.round);
-    open_list(own, tray, list, weight, starts, counts, weights, len)
+    open_list(own, tray, list, weight, starts, counts, sent, len)
 }
 
 // Opens the list received under each heard number, and returns how many are open. Equal lists that follow each other are opened once, and those
@@ -156,11 +156,11 @@ pub(crate) fn open_lists(
     firsts: &[usize; MAX_NUMBERS],
     starts: &mut [usize],
     counts: &mut [usize],
-    weights: &mut [usize],
+    sent: &mut [usize],
 ) -> usize
-    requires { ⌜ Openable fields (now heard) (now own) (now tray) (now firsts) (now starts) (now counts) (now weights) ⌝ }
+    requires { ⌜ Openable fields (now heard) (now own) (now tray) (now firsts) (now starts) (now counts) (now sent) ⌝ }
     ensures { λ r. ⌜ OpensAll (stateOf fields (now (heard .entry)) [] (now (own .entry))) (now (tray .entry)) (now (starts .exit))
-        (now (counts .exit)) (now (weights .exit)) r ⌝ }
+        (now (counts .exit)) (now (sent .exit)) r ⌝ }
 {
     counts[0] = sent_count(fields);
     let mut len = 1;
@@ -176,7 +176,7 @@ pub(crate) fn open_lists(
             weight,
             starts,
             counts,
-            weights,
+            sent,
             len,
         );
         j += weight;

@@ -59,6 +59,7 @@ fn stands_at(list: &[u32], len: usize, at: usize, x: u32) -> bool
     if at < len { list[at] == x } else { false }
 }
 
+// There are too many.
 fn crowded(settled: Settled) -> Settled
     ensures { λ r. ⌜ r .fits ≡ false ⌝ }
 {
@@ -146,8 +147,7 @@ fn settle_all(
         let x = (key / SLOTS) as u32;
         settled = settle(settled, x, passed.count, h, echoed, candidates);
         key = passed.first;
-        let fits = settled.fits;
-        if fits {
+        if settled.fits {
             continue;
         }
         return settled;
@@ -267,8 +267,7 @@ pub(crate) fn grow(
         &mut echoed,
         &mut joined,
     );
-    let fits = settled.fits;
-    if fits {
+    if settled.fits {
         *echoes = echoed;
         *candidates = joined;
         Lists {

@@ -26,10 +26,10 @@ lines {own} {b} {s} {n} {j = j} key next g h few e f =
     }
 
 abbrev Inv-loop : tie.InvT-loop
-Inv-loop own tray starts counts len tree₀ nexts₀ places₀ j₀ tree nexts places j = Lining own tray starts counts len tree nexts places j
+Inv-loop own tray starts counts len tree₀ nexts₀ at₀ j₀ tree nexts at j = Lining own tray starts counts len tree nexts at j
 
 abbrev μ-loop : tie.MeasureT-loop
-μ-loop own tray starts counts len tree₀ nexts₀ places₀ j₀ tree nexts places j = len - j
+μ-loop own tray starts counts len tree₀ nexts₀ at₀ j₀ tree nexts at j = len - j
 
 -- from a turn of the loop: what was given
 abbrev given : tie.At-loop Inv-loop μ-loop → tie.Start Inv-loop μ-loop
@@ -67,11 +67,11 @@ mul-nexts c = search needs
 slice-write-nexts : tie.Need-slice-write-nexts Inv-loop μ-loop
 slice-write-nexts c = search needs
 
-mul-places : tie.Need-mul-places Inv-loop μ-loop
-mul-places c = search needs
+mul-at : tie.Need-mul-at Inv-loop μ-loop
+mul-at c = search needs
 
-slice-write-places : tie.Need-slice-write-places Inv-loop μ-loop
-slice-write-places c = search needs
+slice-write-at : tie.Need-slice-write-at Inv-loop μ-loop
+slice-write-at c = search needs
 
 add-j : tie.Need-add-j Inv-loop μ-loop
 add-j c = search needs
@@ -126,8 +126,8 @@ line-up-spec =
     key-at-requires-2
     mul-nexts
     slice-write-nexts
-    mul-places
-    slice-write-places
+    mul-at
+    slice-write-at
     add-j
     loop-less
     loop-again

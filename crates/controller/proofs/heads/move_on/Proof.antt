@@ -28,11 +28,11 @@ mul-tree c = search needs
 slice-write-tree : tie.Need-slice-write-tree
 slice-write-tree c = search needs
 
-mul-places : tie.Need-mul-places
-mul-places c = search needs
+mul-at : tie.Need-mul-at
+mul-at c = search needs
 
-slice-write-places : tie.Need-slice-write-places
-slice-write-places c = search needs
+slice-write-at : tie.Need-slice-write-at
+slice-write-at c = search needs
 
 key-at-requires : tie.Need-key-at-requires
 key-at-requires c κs = search needs
@@ -67,8 +67,8 @@ move-on-spec =
     add-tree
     mul-tree
     slice-write-tree
-    mul-places
-    slice-write-places
+    mul-at
+    slice-write-at
     key-at-requires
     mul-nexts
     slice-write-nexts

@@ -26,11 +26,11 @@ use Rattle.controller.proofs.heads.pass.Statement.{statement}
 use Rattle.controller.proofs.heads.pass.Tie as tie
 
 abbrev Inv-loop : tie.InvT-loop
-Inv-loop own tray starts counts weights len first tree₀ nexts₀ places₀ limit j₀ count₀ key₀ i₀ tree nexts places j count key i =
-    Climbing own tray starts counts weights len (first / 128) tree nexts places count key i
+Inv-loop own tray starts counts sent len first tree₀ nexts₀ at₀ limit j₀ count₀ key₀ i₀ tree nexts at j count key i =
+    Climbing own tray starts counts sent len (first / 128) tree nexts at count key i
 
 abbrev μ-loop : tie.MeasureT-loop
-μ-loop own tray starts counts weights len first tree₀ nexts₀ places₀ limit j₀ count₀ key₀ i₀ tree nexts places j count key i =
+μ-loop own tray starts counts sent len first tree₀ nexts₀ at₀ limit j₀ count₀ key₀ i₀ tree nexts at j count key i =
     256 * waiting (λ (k : ℕ). 1) tree len (first / 128) + i
 
 -- from before the loop, and from a turn of it: what was given

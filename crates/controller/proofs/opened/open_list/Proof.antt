@@ -18,14 +18,14 @@ same-list-requires c κs =
     let same = c .if1 .taken in
     (pre .8 .low, omega (arith, pre .6), omega (arith, pre .6, pre .7), pre .8 .inside)
 
-slice-read-weights : tie.Need-slice-read-weights
-slice-read-weights c = search needs
+slice-read-sent : tie.Need-slice-read-sent
+slice-read-sent c = search needs
 
-add-weights : tie.Need-add-weights
-add-weights c = search needs
+add-sent : tie.Need-add-sent
+add-sent c = search needs
 
-slice-write-weights : tie.Need-slice-write-weights
-slice-write-weights c = search needs
+slice-write-sent : tie.Need-slice-write-sent
+slice-write-sent c = search needs
 
 same-length : tie.Need-same-length
 same-length c = search needs
@@ -54,11 +54,11 @@ mul-counts c = search needs
 slice-write-counts : tie.Need-slice-write-counts
 slice-write-counts c = search needs
 
-mul-weights : tie.Need-mul-weights
-mul-weights c = search needs
+mul-sent : tie.Need-mul-sent
+mul-sent c = search needs
 
-slice-write-weights-2 : tie.Need-slice-write-weights-2
-slice-write-weights-2 c = search needs
+slice-write-sent-2 : tie.Need-slice-write-sent-2
+slice-write-sent-2 c = search needs
 
 add-result : tie.Need-add-result
 add-result c = search needs
@@ -91,17 +91,17 @@ open-list-spec =
     (tie.spec
     slice-read-if1
     same-list-requires
-    slice-read-weights
-    add-weights
-    slice-write-weights
+    slice-read-sent
+    add-sent
+    slice-write-sent
     same-length
     returns
     mul-starts
     slice-write-starts
     mul-counts
     slice-write-counts
-    mul-weights
-    slice-write-weights-2
+    mul-sent
+    slice-write-sent-2
     add-result
     same-length-2
     same-length-3

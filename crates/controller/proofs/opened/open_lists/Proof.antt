@@ -25,13 +25,13 @@ use Rattle.controller.proofs.opened.open_lists.Statement.{statement}
 use Rattle.controller.proofs.opened.open_lists.Tie as tie
 
 abbrev Inv-loop : tie.InvT-loop
-Inv-loop fields heard own tray firsts starts₀ counts₀ weights₀ len₀ j₀ starts counts weights len j =
+Inv-loop fields heard own tray firsts starts₀ counts₀ sent₀ len₀ j₀ starts counts sent len j =
     (j ≤ fields .heard)
     × (getD counts 0 0 ≡ sentCount fields)
-    × Opening (view (stateOf fields heard [] own)) (entries tray) own tray starts counts weights len j
+    × Opening (view (stateOf fields heard [] own)) (entries tray) own tray starts counts sent len j
 
 abbrev μ-loop : tie.MeasureT-loop
-μ-loop fields heard own tray firsts starts₀ counts₀ weights₀ len₀ j₀ starts counts weights len j = fields .heard - j
+μ-loop fields heard own tray firsts starts₀ counts₀ sent₀ len₀ j₀ starts counts sent len j = fields .heard - j
 
 -- the call, a turn, and its count
 abbrev outside : tie.At-loop Inv-loop μ-loop → tie.Start Inv-loop μ-loop
@@ -111,7 +111,7 @@ open-received-requires c κs =
       opens .starts,
       opens .counts,
       opens .weights,
-      omega (arith, opens .light, total-has (λ i. getD (v .weights) i 0) (v .len) 0 (opens .some)),
+      omega (arith, opens .light, total-has (λ i. getD (v .sent) i 0) (v .len) 0 (opens .some)),
       omega (arith, weight-fits call),
       v .inv .1,
       sent-few pre,

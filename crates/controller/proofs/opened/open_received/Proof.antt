@@ -35,14 +35,14 @@ module _ (f : Fields) (e b : List ℕ) (x i : ℕ) where
 span-words : {b l : List ℕ} {start count : ℕ} → SpanOf b l start count → SpanOf b (wordsAt b start count) start count
 span-words span = record { is = refl; low = span .low; inside = span .inside }
 
-slice-read-weights : tie.Need-slice-read-weights
-slice-read-weights c = search needs
+slice-read-sent : tie.Need-slice-read-sent
+slice-read-sent c = search needs
 
-add-weights : tie.Need-add-weights
-add-weights c = search needs
+add-sent : tie.Need-add-sent
+add-sent c = search needs
 
-slice-write-weights : tie.Need-slice-write-weights
-slice-write-weights c = search needs
+slice-write-sent : tie.Need-slice-write-sent
+slice-write-sent c = search needs
 
 same-length : tie.Need-same-length
 same-length c = search needs
@@ -100,9 +100,9 @@ pub open-received-spec : {M : Type 1} → statement M
 open-received-spec =
     tie.close
     (tie.spec
-    slice-read-weights
-    add-weights
-    slice-write-weights
+    slice-read-sent
+    add-sent
+    slice-write-sent
     same-length
     returns
     list-of-requires
