@@ -1,5 +1,5 @@
 /*
- * The settle engine of one belt controller, for a host in C or C++.
+ * The agreement engine of one controller, for a host in C or C++.
  *
  * The host is the link layer: it keeps the clock, carries the frames, stamps
  * true senders and packs each round's frames into a tray. The engine is one
@@ -18,6 +18,10 @@
  *     to a size_t; pointers with const are read only, the others are read and
  *     written;
  *   - the regions lent to one call (image, tray, out, length) do not overlap.
+ *
+ * How frames and trays lie in bytes, what a call does with them and when it is
+ * refused, with worked bytes: docs/FORMAT.md. How to link, how much stack a call
+ * takes and how an image lies in bytes: docs/IMAGE.md.
  *
  * What every call gives: it reads and writes nothing but what was lent to it,
  * and its answer depends on nothing else.
@@ -61,8 +65,8 @@ extern "C" {
 #define CONTROLLER_NO_ANSWER 255
 
 /*
- * Starts a controller with its number (not 0) and the bit that it brings in
- * (0 or 1). The image is written, not read: it may hold anything before.
+ * Starts a controller with its number (not 0) and its input, a bit (0 or 1). The
+ * image is written, not read: it may hold anything before.
  *
  * Answers 0, or the first refusal that applies of: 1 (the image is not 1,024
  * bytes long), 9, 3.

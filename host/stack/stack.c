@@ -1,7 +1,9 @@
-/* How much stack a call takes. Each call runs on a stack of its own that is
- * filled with a mark before; how far the mark is gone afterwards is how deep
- * the call went. It prints the most, over the trays that ask for most work: 63
- * frames in each of the rounds 1 and 2, with lists of 64 different numbers each.
+/* How much stack each call takes. A call runs on a stack of its own that is
+ * filled with a mark before; how far the mark is gone afterwards is how deep the
+ * call went. It prints a line for each call: its name and the bytes. For a tray
+ * it is the most over the trays that ask for most work: in each of the rounds 1
+ * to 5 a frame from 63 others, with lists of 64 different numbers in rosters and
+ * turns.
  */
 #define _XOPEN_SOURCE 700
 #include <stdint.h>
@@ -11,11 +13,12 @@
 
 #include "controller.h"
 
-enum { OTHERS = 63, LIST = 64, STACK = 1 << 20, MARK = 0xA5 };
+enum { OTHERS = 63, LIST = 64, ROUNDS = 5, STACK = 1 << 20, MARK = 0xA5 };
 
-static uint8_t image[1024], out[264], tray[65535], stack[STACK];
+static uint8_t image[CONTROLLER_IMAGE_LEN], out[CONTROLLER_FRAME_LEN], tray[CONTROLLER_TRAY_LEN];
+static uint8_t stack[STACK];
 static size_t tray_len, length;
-static uint8_t answer;
+static uint32_t answer;
 static ucontext_t here, there;
 
 static void put(size_t at, uint32_t value, int bytes)
@@ -24,10 +27,11 @@ static void put(size_t at, uint32_t value, int bytes)
         tray[at + (size_t)i] = (uint8_t)value;
 }
 
-/* A tray of round 1 (init) or 2 (roster) with a frame from each other one. */
+/* A tray with a frame from each other one; in the first five rounds the kind is
+ * the round. */
 static void pack(uint32_t round)
 {
-    uint32_t count = round == 2 ? LIST : 0;
+    uint32_t count = round == 2 || round == 5 ? LIST : 0;
     size_t at = 8 + 8 * OTHERS;
     put(0, round, 4);
     put(4, OTHERS, 2);
@@ -38,7 +42,7 @@ static void pack(uint32_t round)
         put(14 + 8 * i, 8 + 4 * count, 2);
         put(at, round, 4);
         put(at + 4, round, 1);
-        put(at + 5, 2, 1);
+        put(at + 5, round <= 2 ? 2 : i % 2, 1);
         put(at + 6, count, 2);
         for (uint32_t k = 0; k < count; k++)
             put(at + 8 + 4 * k, 1 + k * OTHERS + i, 4);
@@ -47,13 +51,25 @@ static void pack(uint32_t round)
     tray_len = at;
 }
 
-static void call(void)
+static void start(void)
+{
+    answer = controller_start(1, 1, image, sizeof image, out, sizeof out, &length);
+}
+
+static void work(void)
 {
     answer = controller_tray(image, sizeof image, tray, tray_len, out, sizeof out, &length);
 }
 
+static void decision(void) { answer = controller_decision(image, sizeof image); }
+static void round_sent(void) { answer = controller_round(image, sizeof image); }
+static void king(void) { answer = controller_king(image, sizeof image); }
+static void heard(void) { answer = controller_heard(image, sizeof image); }
+static void candidates(void) { answer = controller_candidates(image, sizeof image); }
+static void echoes(void) { answer = controller_echoes(image, sizeof image); }
+
 /* Runs the call on the marked stack; how many bytes of it were written. */
-static size_t depth(void)
+static size_t depth(void (*call)(void))
 {
     memset(stack, MARK, sizeof stack);
     getcontext(&there);
@@ -68,18 +84,38 @@ static size_t depth(void)
     return sizeof stack - i;
 }
 
-int main(void)
+/* The most that a call of each round takes; 0 if one is refused. */
+static size_t most_of_trays(void)
 {
     size_t most = 0;
-    if (controller_start(1, 1, image, sizeof image, out, sizeof out, &length) != 0)
-        return 1;
-    for (uint32_t round = 1; round <= 2; round++) {
+    for (uint32_t round = 1; round <= ROUNDS; round++) {
         pack(round);
-        size_t now = depth();
-        most = now > most ? now : most;
-        if (answer != 0)
-            return 1;
+        size_t bytes = depth(work);
+        most = bytes > most ? bytes : most;
+        if (answer != CONTROLLER_WORKED)
+            return 0;
     }
-    printf("%zu\n", most);
+    return most;
+}
+
+int main(void)
+{
+    size_t bytes[8];
+    /* The second time, so that no call is the first to look a library's function
+     * up, which would count. */
+    for (int time = 0; time < 2; time++) {
+        bytes[0] = depth(start);
+        bytes[1] = most_of_trays();
+        bytes[2] = depth(decision);
+        bytes[3] = depth(round_sent);
+        bytes[4] = depth(king);
+        bytes[5] = depth(heard);
+        bytes[6] = depth(candidates);
+        bytes[7] = depth(echoes);
+    }
+    static const char *const names[] = {"start", "tray", "decision", "round",
+                                        "king", "heard", "candidates", "echoes"};
+    for (int i = 0; i < 8; i++)
+        printf("controller_%s %zu\n", names[i], bytes[i]);
     return 0;
 }

@@ -18,22 +18,24 @@ use Rattle.controller.specs.Lists.{In, mem}
 use Rattle.controller.specs.Received.{senders}
 use Rattle.controller.specs.Refusals.{trayRefusal, sendersFit, heardFit, listsFit}
 use Rattle.controller.specs.Laws.Lists.{mem-out}
-use Rattle.controller.specs.State.{View, view, image}
-use Rattle.controller.specs.Storage.{Checked, Sends}
+use Rattle.controller.specs.State.{View, view, storedState}
+use Rattle.controller.specs.Work.Calls.{Checked, Sends}
 use Rattle.controller.specs.Calls.{Promise}
 use Rattle.controller.specs.declared.state.State.{State}
 use Rattle.controller.specs.declared.state.Answer.{Answer}
 use Rattle.controller.specs.declared.state.Fields.{Fields}
 use Rattle.controller.specs.declared.state.Worked.{Worked}
 
-pub promise-refused : (n k : ℕ) (v : View) (s : State) (b : List ℕ) (r : Answer) → n ≡ k → eqb k 0 ≡ false → r ≡ record { refusal = k; state = s; length = 0 } → Promise n v s b r b
+pub promise-refused : (n k : ℕ) (v : View) (s : State) (b : List ℕ) (r : Answer)
+    → n ≡ k → eqb k 0 ≡ false → r ≡ record { refusal = k; state = s; length = 0 } → Promise n v s b r b
 promise-refused n k v s b r e z a = record { number = rw (a, e); state = rw (a, e, z); written = rw (a, e, z); output = rw (e, z) }
 
-pub promise-left : (n k : ℕ) (v : View) (f : Fields) (h c e b : List ℕ) (w : Worked) → n ≡ k → eqb k 0 ≡ false → w ≡ record { refusal = k; fields = f; length = 0 }
+pub promise-left : (n k : ℕ) (v : View) (f : Fields) (h c e b : List ℕ) (w : Worked)
+    → n ≡ k → eqb k 0 ≡ false → w ≡ record { refusal = k; fields = f; length = 0 }
     → Promise n v (stateOf f h c e) b (answerOf w h c e) b
 promise-left n k v f h c e b w q z a = promise-refused n k v (stateOf f h c e) b (answerOf w h c e) q z (ap (λ (u : Worked). answerOf u h c e) a)
 
-pub promise-sent : (n : ℕ) (v : View) (s t : State) (b : List ℕ) (l : ℕ) (a : List ℕ) → n ≡ 0 → t ≡ image v → Sends v b l a
+pub promise-sent : (n : ℕ) (v : View) (s t : State) (b : List ℕ) (l : ℕ) (a : List ℕ) → n ≡ 0 → t ≡ storedState v → Sends v b l a
     → Promise n v s b (record { refusal = 0; state = t; length = l }) a
 promise-sent n v s t b l a e made sent = record { number = sym e; state = rw e made; written = rw e (sent .written); output = rw e (sent .output) }
 
@@ -50,4 +52,5 @@ senders-numbered s b h =
 pub tests-left : {s : State} {b : List ℕ} {n : ℕ} → Checked s b n
     → trayRefusal s b n ≡ cond (sendersFit (view s) (entries b)) (cond (heardFit (view s) (entries b)) (cond (listsFit (view s) (entries b)) 0 8) 7) 6
 unfolding trayRefusal
-tests-left {s} {b} {n} k = rw (k .sound, lt-ltb (s .round) lastRound (k .early), le-leb maxFrame n (k .room), k .packed, eq-eqb (roundOf b) (s .round) (k .round))
+tests-left {s} {b} {n} k =
+    rw (k .sound, lt-ltb (s .round) lastRound (k .early), le-leb maxFrame n (k .room), k .packed, eq-eqb (roundOf b) (s .round) (k .round))

@@ -6,7 +6,7 @@
 --     fromThree t p        what the faulty 3 sends to p in round t, as entries of p's tray; fromOthers p vs, what the others of vs send
 --     packed t es          the well packed tray of round t with the entries es
 --     trayTo v vs          the tray of the one whose state is v: what 3 sends to it, then the frames of the others of vs, byte for byte
---     step vs              the states after each has taken its tray
+--     exchange vs              the states after each has taken its tray
 --     LateJoiner a b c     what the paper says of the trial, where 5, 7 and 9 bring in the bits a, b, c
 use Prim.Native.Nat.{ℕ, zero, suc, _+_, _*_}
 use mathlib.Core.Bool.{cond, _&&_, _||_}
@@ -18,7 +18,7 @@ use Rattle.wire.specs.Limits.{maxFrame, trayHeader, entryWidth}
 use Rattle.wire.specs.Words.{halfBytes, wordBytes}
 use Rattle.wire.specs.Frame.{kindSaid, bitSaid}
 use Rattle.wire.specs.Tray.{Entry, entries}
-use Rattle.controller.specs.State.{View, image, startView}
+use Rattle.controller.specs.State.{View, storedState, startView}
 use Rattle.controller.specs.Received.{frameOf}
 use Rattle.controller.specs.Rules.{next}
 use Rattle.controller.specs.Refusals.{startRefusal, trayRefusal}
@@ -31,7 +31,7 @@ abbrev pub row : View → List ℕ
 row v =
     let sent = frameOf v in
     sent .round ∷ kindSaid (sent .said) ∷ bitSaid (sent .said) ∷ length (sent .numbers)
-    ∷ length (v .heard) ∷ length (v .candidates) ∷ v .king ∷ v .decision ∷ []
+    ∷ length (v .rotor .heard) ∷ length (v .rotor .candidates) ∷ v .rotor .king ∷ v .bit .decision ∷ []
 
 abbrev pub listing : View → List (List ℕ) → List (List ℕ)
 listing v [] = row v ∷ []
@@ -39,7 +39,7 @@ listing v (b ∷ bs) = row v ∷ listing (next v (entries b)) bs
 
 abbrev pub refusals : View → List (List ℕ) → List ℕ
 refusals v [] = []
-refusals v (b ∷ bs) = trayRefusal (image v) b maxFrame ∷ refusals (next v (entries b)) bs
+refusals v (b ∷ bs) = trayRefusal (storedState v) b maxFrame ∷ refusals (next v (entries b)) bs
 
 abbrev pub emptyTrays : List (List ℕ)
 emptyTrays =
@@ -91,39 +91,39 @@ packed t es = wordBytes t ++ halfBytes (length es) ++ halfBytes 0 ++ directory (
 abbrev pub trayTo : View → List View → List ℕ
 trayTo v vs = packed (v .round) (fromThree (v .round) (v .own) ++ fromOthers (v .own) vs)
 
-abbrev pub step : List View → List View
-step vs = map (λ (v : View). next v (entries (trayTo v vs))) vs
+abbrev pub exchange : List View → List View
+exchange vs = map (λ (v : View). next v (entries (trayTo v vs))) vs
 
 -- the states of round 1 + n, from those of round 1
-abbrev pub after : ℕ → List View → List View
-after zero vs = vs
-after (suc n) vs = after n (step vs)
+abbrev pub afterRounds : ℕ → List View → List View
+afterRounds zero vs = vs
+afterRounds (suc n) vs = afterRounds n (exchange vs)
 
 -- f of the states of n rounds, one after the other
 abbrev pub inRounds : {A : Type 0} → ℕ → (List View → A) → List View → List A
 inRounds zero f vs = []
-inRounds (suc n) f vs = f vs ∷ inRounds n f (step vs)
+inRounds (suc n) f vs = f vs ∷ inRounds n f (exchange vs)
 
 abbrev pub starts : ℕ → ℕ → ℕ → List View
 starts a b c = startView 5 a ∷ startView 7 b ∷ startView 9 c ∷ []
 
 abbrev pub trayRefusals : List View → List ℕ
-trayRefusals vs = map (λ (v : View). trayRefusal (image v) (trayTo v vs) maxFrame) vs
+trayRefusals vs = map (λ (v : View). trayRefusal (storedState v) (trayTo v vs) maxFrame) vs
 
 abbrev pub decisions : List View → List ℕ
-decisions vs = map (λ (v : View). v .decision) vs
+decisions vs = map (λ (v : View). v .bit .decision) vs
 
 abbrev pub kings : List View → List ℕ
-kings vs = map (λ (v : View). v .king) vs
+kings vs = map (λ (v : View). v .rotor .king) vs
 
 pub record LateJoiner (a b c : ℕ) : Type 0 where
   -- no tray of rounds 1 to 14 is refused
   pub accepted : inRounds 14 trayRefusals (starts a b c) ≡ replicate 14 (0 ∷ 0 ∷ 0 ∷ [])
   -- "In phase 0, 9 names king 3; 5 and 7 name 5"
-  pub phase-0 : kings (after 2 (starts a b c)) ≡ 5 ∷ 5 ∷ 3 ∷ []
+  pub phase-0 : kings (afterRounds 2 (starts a b c)) ≡ 5 ∷ 5 ∷ 3 ∷ []
   -- "In phase 1 all have 3, 5, 7, 9 and name 5"
-  pub phase-1-candidates : map (λ (v : View). v .candidates) (after 5 (starts a b c)) ≡ replicate 3 (3 ∷ 5 ∷ 7 ∷ 9 ∷ [])
-  pub phase-1 : kings (after 5 (starts a b c)) ≡ 5 ∷ 5 ∷ 5 ∷ []
+  pub phase-1-candidates : map (λ (v : View). v .rotor .candidates) (afterRounds 5 (starts a b c)) ≡ replicate 3 (3 ∷ 5 ∷ 7 ∷ 9 ∷ [])
+  pub phase-1 : kings (afterRounds 5 (starts a b c)) ≡ 5 ∷ 5 ∷ 5 ∷ []
   -- "all decide in round 15", none in the 14 rounds before: on the bit of 5, the first king whom all three name
   pub decided : inRounds 15 decisions (starts a b c) ≡ replicate 14 (2 ∷ 2 ∷ 2 ∷ []) ++ ((a ∷ a ∷ a ∷ []) ∷ [])
-  pub last-round : map (λ (v : View). v .round) (after 14 (starts a b c)) ≡ 15 ∷ 15 ∷ 15 ∷ []
+  pub last-round : map (λ (v : View). v .round) (afterRounds 14 (starts a b c)) ≡ 15 ∷ 15 ∷ 15 ∷ []

@@ -1,10 +1,15 @@
 -- A state in parts: what a call in place is given. They are no part of the rules.
 --     stateOf f h c e      the state with the fields f, where h, c and e are the places of heard, candidates and echoes
 --     answerOf w h c e     the answer of a call in place that returns w and leaves these places
+--     Given, Lent          what the name of a lent list is in a `requires` and in an `ensures`
+--     stateGiven f h c e   the state whose lists are lent; stateBefore f h c e, the same in an `ensures`
 --     bare f               the view of the fields f alone, with empty lists
 use Prim.Native.Nat.{ℕ}
 use mathlib.Core.List.{List, []}
-use Rattle.controller.specs.State.{View, view}
+use denote.Ref.{RefT, now}
+use denote.Triple.Both.{Both}
+use Rattle.wire.specs.Lent.{before}
+use Rattle.controller.specs.State.{View, view, stateFrom}
 use Rattle.controller.specs.declared.state.Answer.{Answer}
 use Rattle.controller.specs.declared.state.Fields.{Fields}
 use Rattle.controller.specs.declared.state.State.{State}
@@ -12,18 +17,22 @@ use Rattle.controller.specs.declared.state.Worked.{Worked}
 
 abbrev pub stateOf : Fields → List ℕ → List ℕ → List ℕ → State
 stateOf f h c e =
-    record {
-      own = f .own;
-      round = f .round;
-      bit = f .bit;
-      said = f .said;
-      strong = f .strong;
-      king = f .king;
-      decision = f .decision;
-      heard = record { len = f .heard; at = h };
-      candidates = record { len = f .candidates; at = c };
-      echoes = record { len = f .echoes; at = e };
-    }
+    stateFrom (f .own) (f .round) (record { own = f .bit; said = f .said; strong = f .strong; decision = f .decision }) (f .king)
+    (record { len = f .heard; at = h }) (record { len = f .candidates; at = c }) (record { len = f .echoes; at = e })
+
+-- a lent list, as its name stands for it in a `requires`
+abbrev pub Given : Type 0
+Given = RefT (List ℕ)
+
+-- and in an `ensures`
+abbrev pub Lent : Type 0
+Lent = Both Given Given
+
+abbrev pub stateGiven : Fields → Given → Given → Given → State
+stateGiven f h c e = stateOf f (now h) (now c) (now e)
+
+abbrev pub stateBefore : Fields → Lent → Lent → Lent → State
+stateBefore f h c e = stateOf f (before h) (before c) (before e)
 
 abbrev pub answerOf : Worked → List ℕ → List ℕ → List ℕ → Answer
 answerOf w h c e = record { refusal = w .refusal; state = stateOf (w .fields) h c e; length = w .length }

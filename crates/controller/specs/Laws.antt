@@ -1,21 +1,13 @@
 -- Laws about the definitions, for the proofs of this crate and of the crates above it.
+pub mod Damage
 pub mod Examples
-pub mod Grow
-pub mod Heads
 pub mod Lists
-pub mod Opened
-pub mod Ready
 pub mod Received
 pub mod Refusals
 pub mod Rotation
 pub mod Rules
-pub mod Settle
 pub mod State
-pub mod Step
-pub mod Storage
-pub mod Tally
 pub mod Thirds
-pub mod Total
-pub mod Tree
 pub mod Trials
-pub mod Walk
+-- Laws that tie the words for the code's work to the rules' words.
+pub mod Work

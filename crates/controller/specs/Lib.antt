@@ -10,8 +10,8 @@ pub mod Rules
 pub mod Refusals
 pub mod Calls
 pub mod Bytes
-pub mod Storage
-pub mod Walk
 pub mod Trials
 pub mod Examples
 pub mod Laws
+-- Words for the code's work, which contracts of inner functions cite.
+pub mod Work

@@ -1,9 +1,10 @@
 -- What a controller has received in a round: document 01, "From one tray to the next frame", its first two paragraphs.
 --     frameOf v            the frame sent with the state v: "the controller's own last frame"
---     heardAfter v es      heard, after the senders of the tray's entries es are in: "each sender .. becomes heard, even by a void frame"
---     received v es x      the content of x's frame as received: the own last frame, or what x's first entry reads as in the state's round
+--     Received             who is heard, and the frame had from each
+--     receive v es         what the state v has received with the entries es of a tray: the rules read no entry but by way of this
 --     says k b o           a received frame of kind k with bit b; listIn o, its numbers; opinionIn o, its opinion, 2 where it has none
---     count P v es         how many of those heard have a received frame with P
+--     count P r            how many of those heard have a received frame with P
+--     lists r              the received lists, all that the coordinator rotation reads: no bit is among them
 use Prim.Native.Nat.{ℕ}
 use mathlib.Core.Bool.{Bool, false, cond, _&&_}
 use mathlib.Core.List.{List, [], map}
@@ -19,22 +20,29 @@ unfoldable pub frameOf : View → Content
 frameOf v =
     record {
       round = v .round;
-      said = saidBy (kindOf (v .round)) (v .said);
-      numbers = cond (ltb 0 (maxCount (kindOf (v .round)))) (v .echoes) [];
+      said = saidBy (kindOf (v .round)) (v .bit .said);
+      numbers = cond (ltb 0 (maxCount (kindOf (v .round)))) (v .rotor .echoes) [];
     }
 
 abbrev pub senders : List Entry → List ℕ
 senders es = map (λ (e : Entry). e .sender) es
 
-unfoldable pub heardAfter : View → List Entry → List ℕ
-heardAfter v es = insertAll (senders es) (v .heard)
-
 abbrev pub readIn : ℕ → Option (List ℕ) → Option Content
 readIn t none = none
 readIn t (some b) = content b t
 
-unfoldable pub received : View → List Entry → ℕ → Option Content
-received v es x = cond (eqb x (v .own)) (some (frameOf v)) (readIn (v .round) (firstBytes x es))
+pub record Received : Type 0 where
+  pub heard : List ℕ
+  pub from : ℕ → Option Content
+
+-- "Each sender in the directory becomes heard, even by a void frame. The controller's own last frame counts as received"; from another it has what
+-- that one's first entry reads as in the state's round
+unfoldable pub receive : View → List Entry → Received
+receive v es =
+    record {
+      heard = insertAll (senders es) (v .rotor .heard);
+      from = λ x. cond (eqb x (v .own)) (some (frameOf v)) (readIn (v .round) (firstBytes x es));
+    }
 
 -- ---- what a received frame says
 
@@ -50,5 +58,14 @@ abbrev pub listIn : Option Content → List ℕ
 listIn none = []
 listIn (some c) = c .numbers
 
-abbrev pub count : (Option Content → Bool) → View → List Entry → ℕ
-count P v es = countIf (λ (x : ℕ). P (received v es x)) (heardAfter v es)
+abbrev pub count : (Option Content → Bool) → Received → ℕ
+count P r = countIf (λ (x : ℕ). P (r .from x)) (r .heard)
+
+-- ---- the received lists
+
+pub record ReceivedLists : Type 0 where
+  pub heard : List ℕ
+  pub list : ℕ → List ℕ
+
+abbrev pub lists : Received → ReceivedLists
+lists r = record { heard = r .heard; list = λ x. listIn (r .from x) }

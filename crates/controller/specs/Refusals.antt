@@ -11,7 +11,7 @@ use Rattle.wire.specs.Refusal.{firstFailed}
 use Rattle.wire.specs.Tray.{Entry, wellFormed, roundOf, entries}
 use Rattle.controller.specs.Lists.{mem}
 use Rattle.controller.specs.State.{View, view, sound}
-use Rattle.controller.specs.Received.{senders, heardAfter}
+use Rattle.controller.specs.Received.{senders, receive}
 use Rattle.controller.specs.Rules.{next}
 use Rattle.controller.specs.declared.state.State.{State}
 
@@ -24,11 +24,11 @@ sendersFit v es = not (mem 0 (senders es)) && not (mem (v .own) (senders es))
 
 -- 7: "more than 64 would be heard"
 abbrev pub heardFit : View → List Entry → Bool
-heardFit v es = leb (length (heardAfter v es)) maxNumbers
+heardFit v es = leb (length ((receive v es) .heard)) maxNumbers
 
 -- 8: "more than 64 candidates or echoes would result"
 abbrev pub listsFit : View → List Entry → Bool
-listsFit v es = leb (length ((next v es) .candidates)) maxNumbers && leb (length ((next v es) .echoes)) maxNumbers
+listsFit v es = leb (length ((next v es) .rotor .candidates)) maxNumbers && leb (length ((next v es) .rotor .echoes)) maxNumbers
 
 unfoldable pub trayRefusal : State → List ℕ → ℕ → ℕ
 trayRefusal s b n =

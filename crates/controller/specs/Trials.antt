@@ -8,10 +8,9 @@ use mathlib.Core.Bool.{Bool, true, false}
 use mathlib.Core.List.{List, [], _∷_, _++_, map}
 use mathlib.Core.Path.{_≡_}
 use Rattle.wire.specs.Limits.{maxFrame}
-use Rattle.wire.specs.Trials.{FrameTrial, frameTrials}
-use Rattle.wire.specs.Trials as wire
+use Rattle.wire.specs.Trials.{FrameTrial, FrameHolds, frameTrials}
 use Rattle.controller.specs.Thirds.{third, twoThirds}
-use Rattle.controller.specs.State.{image, startView}
+use Rattle.controller.specs.State.{storedState, startView}
 use Rattle.controller.specs.Refusals.{trayRefusal}
 use Rattle.controller.specs.declared.state.State.{State}
 
@@ -24,13 +23,13 @@ pub data Trial : Type 0 where
   Tray : State → List ℕ → ℕ → Trial
 
 abbrev pub Holds : Trial → Type 0
-Holds (Frame t) = wire.Holds t
+Holds (Frame t) = FrameHolds t
 Holds (Threshold h c one two) = (third c h ≡ one) × (twoThirds c h ≡ two)
 Holds (Tray s b k) = trayRefusal s b maxFrame ≡ k
 
 -- a state of round 1
 abbrev pub started : State
-started = image (startView 7 1)
+started = storedState (startView 7 1)
 
 abbrev pub trials : List Trial
 trials =

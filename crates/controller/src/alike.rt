@@ -5,8 +5,9 @@ ghost use mathlib.Core.Option.{some};
 ghost use mathlib.Core.Path.{_≡_};
 ghost use Prim.Native.Nat.{_≤_, _<_};
 ghost use lib.ListN.{length};
+ghost use Rattle.wire.specs.Lent.{before};
 ghost use Rattle.wire.specs.Tray.{place, bytesAt};
-ghost use Rattle.controller.specs.Storage.{Alike};
+ghost use Rattle.controller.specs.Work.Alike.{Alike};
 use wire::tray::Found;
 use wire::tray::entry_place;
 use wire::tray::part_of;
@@ -14,7 +15,7 @@ use wire::tray::part_of;
 // Whether two parts have the same bytes. Lists that differ mostly differ in the last byte, so that is compared first: most pairs are told apart by
 // it. The loop has no way out, so that many bytes are compared at once.
 fn same_bytes(a: &[u8], b: &[u8]) -> bool
-    ensures { λ r. ⌜ (r ≡ true → now (a .entry) ≡ now (b .entry)) ⌝ }
+    ensures { λ r. ⌜ (r ≡ true → before a ≡ before b) ⌝ }
 {
     let len = a.len();
     if len == b.len() {
@@ -37,7 +38,7 @@ fn same_bytes(a: &[u8], b: &[u8]) -> bool
 
 // Whether an entry has these bytes.
 fn same_part(tray: &[u8], bytes: &[u8], f: usize) -> bool
-    ensures { λ r. ⌜ (r ≡ true → some (now (bytes .entry)) ≡ bytesAt (now (tray .entry)) (place (now (tray .entry)) f)) ⌝ }
+    ensures { λ r. ⌜ (r ≡ true → some (before bytes) ≡ bytesAt (before tray) (place (before tray) f)) ⌝ }
 {
     let found = entry_place(tray, f);
     match found {
@@ -48,7 +49,7 @@ fn same_part(tray: &[u8], bytes: &[u8], f: usize) -> bool
 
 // Whether two entries have the same bytes.
 fn same_entry(tray: &[u8], e: usize, f: usize) -> bool
-    ensures { λ r. ⌜ (r ≡ true → bytesAt (now (tray .entry)) (place (now (tray .entry)) e) ≡ bytesAt (now (tray .entry)) (place (now (tray .entry)) f)) ⌝ }
+    ensures { λ r. ⌜ (r ≡ true → bytesAt (before tray) (place (before tray) e) ≡ bytesAt (before tray) (place (before tray) f)) ⌝ }
 {
     let found = entry_place(tray, e);
     match found {
@@ -67,7 +68,7 @@ pub(crate) fn alike(
     j: usize,
 ) -> usize
     requires { ⌜ (len ≤ length (now heard)) × (len ≤ length (now firsts)) × (j < len) ⌝ }
-    ensures { λ r. ⌜ Alike own (now (tray .entry)) (now (heard .entry)) len (now (firsts .entry)) j r ⌝ }
+    ensures { λ r. ⌜ Alike own (before tray) (before heard) len (before firsts) j r ⌝ }
 {
     if heard[j] == own {
         return 1;

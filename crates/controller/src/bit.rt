@@ -1,25 +1,24 @@
 // The bit: what is taken from the king, proposed and adopted.
 ghost use mathlib.Core.Bool.{cond, true, _&&_};
-ghost use mathlib.Core.List.{List};
 ghost use mathlib.Core.Path.{_≡_};
-ghost use Prim.Native.Nat.{ℕ, _+_, _≤_};
+ghost use Prim.Native.Nat.{_+_, _≤_};
 ghost use lib.Dec.{eqb};
-ghost use lib.ListN.{length};
 ghost use Rattle.wire.specs.Frame.{kindOf};
 ghost use Rattle.wire.specs.Limits.{maxNumbers};
-ghost use Rattle.wire.specs.Tray.{Entry, entries};
-ghost use Rattle.controller.specs.Fields.{stateOf, bare};
+ghost use Rattle.controller.specs.Fields.{bare};
 ghost use Rattle.controller.specs.State.{view, undecided, soundList};
-ghost use Rattle.controller.specs.Received.{heardAfter};
 ghost use Rattle.controller.specs.Thirds.{twoThirds};
 ghost use Rattle.controller.specs.Bit.{kingOpinion, bitTaken};
-ghost use Rattle.controller.specs.Storage.{Ready, CountsBits, proposedFrom, adoptedFrom, TurnsBit};
+ghost use Rattle.controller.specs.Work.Received.{receivedBy, WhereReady};
+ghost use Rattle.controller.specs.Work.Bit.{proposedFrom, adoptedFrom, Turns};
+ghost use Rattle.controller.specs.Work.Lists.{inPlaces};
 use crate::lists::has_at;
 use crate::lists::place_in;
 use crate::received::Counts;
 use crate::received::received_bit;
 use crate::state::Fields;
 use wire::limits::MAX_NUMBERS;
+use wire::limits::NO_BIT;
 
 // The opinion of the state's king, 2 where it has none. A king that is not heard sent nothing.
 fn king_opinion(
@@ -28,8 +27,8 @@ fn king_opinion(
     tray: &[u8],
     firsts: &[usize; MAX_NUMBERS],
 ) -> u8
-    requires { ⌜ soundList (record { len = fields .heard; at = now heard }) ≡ true ⌝ }
-    ensures { λ r. ⌜ ((c e : List ℕ) → Ready (stateOf fields (now (heard .entry)) c e) (now (tray .entry)) (now (firsts .entry)) → kindOf (fields .round) ≡ 5 → r ≡ kingOpinion (view (stateOf fields (now (heard .entry)) c e)) (entries (now (tray .entry)))) ⌝ }
+    requires { ⌜ soundList (inPlaces (fields .heard) (now heard)) ≡ true ⌝ }
+    ensures { λ r. ⌜ WhereReady fields heard tray firsts (λ s b. kindOf (s .round) ≡ 5 → r ≡ kingOpinion (view s) (receivedBy s b)) ⌝ }
 {
     let king = fields.king;
     let place = place_in(heard, fields.heard, king);
@@ -42,9 +41,9 @@ fn king_opinion(
             king,
             firsts[place],
         );
-        if bit <= 1 { bit } else { 2 }
+        if bit <= 1 { bit } else { NO_BIT }
     } else {
-        2
+        NO_BIT
     }
 }
 
@@ -55,14 +54,14 @@ pub(crate) fn bit_taken(
     tray: &[u8],
     firsts: &[usize; MAX_NUMBERS],
 ) -> u8
-    requires { ⌜ soundList (record { len = fields .heard; at = now heard }) ≡ true ⌝ }
-    ensures { λ r. ⌜ ((c e : List ℕ) → Ready (stateOf fields (now (heard .entry)) c e) (now (tray .entry)) (now (firsts .entry)) → kindOf (fields .round + 1) ≡ 3 → r ≡ bitTaken (view (stateOf fields (now (heard .entry)) c e)) (entries (now (tray .entry)))) ⌝ }
+    requires { ⌜ soundList (inPlaces (fields .heard) (now heard)) ≡ true ⌝ }
+    ensures { λ r. ⌜ WhereReady fields heard tray firsts (λ s b. kindOf (s .round + 1) ≡ 3 → r ≡ bitTaken (view s) (receivedBy s b)) ⌝ }
 {
     let bit = fields.bit;
     if fields.round < 3 {
         return bit;
     }
-    if fields.decision != 2 {
+    if fields.decision != NO_BIT {
         return bit;
     }
     if fields.strong != 0 {
@@ -82,7 +81,7 @@ pub(crate) fn proposal(counts: Counts, h: usize) -> u8
     } else if 2 * h <= 3 * counts.ones {
         1
     } else {
-        2
+        NO_BIT
     }
 }
 
@@ -99,7 +98,7 @@ fn adopted(fields: Fields, zeros: usize, ones: usize, h: usize) -> u8
     ensures { λ r. ⌜ r ≡ adoptedFrom (bare fields) zeros ones h ⌝ }
 {
     let bit = fields.bit;
-    if fields.decision != 2 {
+    if fields.decision != NO_BIT {
         return bit;
     }
     if h <= 3 * zeros {
@@ -123,16 +122,20 @@ fn strong_of(count: usize, h: usize) -> u8
 fn opinion_of(fields: Fields, bit: u8) -> u8
     ensures { λ r. ⌜ r ≡ cond (undecided (bare fields) && eqb (fields .king) (fields .own)) bit 2 ⌝ }
 {
-    if fields.decision != 2 {
-        return 2;
+    if fields.decision != NO_BIT {
+        return NO_BIT;
     }
-    if fields.king == fields.own { bit } else { 2 }
+    if fields.king == fields.own {
+        bit
+    } else {
+        NO_BIT
+    }
 }
 
 // What the counts of proposals among `h` make of the bit.
 pub(crate) fn spoken(fields: Fields, counts: Counts, h: usize) -> Turn
     requires { ⌜ (counts .zeros ≤ maxNumbers) × (counts .ones ≤ maxNumbers) × (h ≤ maxNumbers) × (fields .bit ≤ 1) ⌝ }
-    ensures { λ r. ⌜ ((l c e : List ℕ) (es : List Entry) → CountsBits 4 (view (stateOf fields l c e)) es counts → h ≡ length (heardAfter (view (stateOf fields l c e)) es) → TurnsBit (view (stateOf fields l c e)) es r) ⌝ }
+    ensures { λ r. ⌜ Turns fields counts h r ⌝ }
 {
     let zeros = counts.zeros;
     let ones = counts.ones;

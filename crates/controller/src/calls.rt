@@ -1,17 +1,13 @@
 // The two calls: start, and tray, which works a tray of frames or refuses it; and work, which is tray on a state that is lent in parts.
-ghost use mathlib.Core.Bool.{true, cond};
-ghost use mathlib.Core.List.{List};
 ghost use mathlib.Core.Path.{_≡_};
-ghost use Prim.Native.Nat.{ℕ, _≤_, _<_};
+ghost use Prim.Native.Nat.{_≤_};
 ghost use lib.ListN.{length};
-ghost use Rattle.wire.specs.Limits.{maxFrame, lastRound};
-ghost use Rattle.wire.specs.Tray.{entries};
-ghost use Rattle.controller.specs.Fields.{stateOf, answerOf};
-ghost use Rattle.controller.specs.State.{view, sound, zeroState, image, startView};
-ghost use Rattle.controller.specs.Refusals.{listsFit};
-ghost use Rattle.controller.specs.Rules.{next};
-ghost use Rattle.controller.specs.Calls.{Promise, StartPromise, TrayPromise};
-ghost use Rattle.controller.specs.Storage.{Ready, Checked, Sends};
+ghost use Rattle.wire.specs.Lent.{before, after};
+ghost use Rattle.wire.specs.Limits.{maxFrame};
+ghost use Rattle.controller.specs.Fields.{stateBefore, stateGiven};
+ghost use Rattle.controller.specs.State.{zeroState, storedState, startView};
+ghost use Rattle.controller.specs.Calls.{StartPromise, TrayPromise, WorkPromise};
+ghost use Rattle.controller.specs.Work.Calls.{earlyRefusal, Checked, LastTest, HeardTray, SendsFields};
 use crate::lists::no_numbers;
 use crate::received::first_entries;
 use crate::received::hear;
@@ -27,13 +23,14 @@ use crate::step::step;
 use wire::frame::Frame;
 use wire::frame::kind_of;
 use wire::frame::said_by;
-use wire::frame::write_frame;
 use wire::limits::LAST_ROUND;
 use wire::limits::MAX_FRAME;
 use wire::limits::MAX_NUMBERS;
+use wire::limits::NO_BIT;
 use wire::tray::entry_count;
 use wire::tray::tray_round;
 use wire::tray::well_formed;
+use wire::write::write_frame;
 
 fn zero_state() -> State
     ensures { λ r. ⌜ r ≡ zeroState ⌝ }
@@ -54,7 +51,7 @@ fn zero_state() -> State
 }
 
 fn first_state(number: u32, bit: u8) -> State
-    ensures { λ r. ⌜ r ≡ image (startView number bit) ⌝ }
+    ensures { λ r. ⌜ r ≡ storedState (startView number bit) ⌝ }
 {
     let none = no_numbers();
     let mut heard = none;
@@ -64,10 +61,10 @@ fn first_state(number: u32, bit: u8) -> State
         own: number,
         round: 1,
         bit,
-        said: 2,
+        said: NO_BIT,
         strong: 0,
         king: 0,
-        decision: 2,
+        decision: NO_BIT,
         heard,
         candidates: none,
         echoes: none,
@@ -85,7 +82,7 @@ fn refused(refusal: u8, state: State) -> Answer
 }
 
 // Refuses, in place: the fields stay what they were.
-fn left(refusal: u8, fields: Fields) -> Worked
+fn refused_in_place(refusal: u8, fields: Fields) -> Worked
     ensures { λ r. ⌜ r ≡ record { refusal = refusal; fields = fields; length = 0 } ⌝ }
 {
     Worked {
@@ -98,7 +95,7 @@ fn left(refusal: u8, fields: Fields) -> Worked
 // Writes the frame that is sent with a state, and returns its length.
 fn send(fields: Fields, echoes: &[u32], out: &mut [u8]) -> usize
     requires { ⌜ (maxFrame ≤ length (now out)) × (fields .echoes ≤ length (now echoes)) ⌝ }
-    ensures { λ r. ⌜ ((h c : List ℕ) → sound (stateOf fields h c (now (echoes .entry))) ≡ true → Sends (view (stateOf fields h c (now (echoes .entry)))) (now (out .entry)) r (now (out .exit))) ⌝ }
+    ensures { λ r. ⌜ SendsFields fields (before echoes) (before out) r (after out) ⌝ }
 {
     let round = fields.round;
     let kind = kind_of(round);
@@ -110,7 +107,7 @@ fn send(fields: Fields, echoes: &[u32], out: &mut [u8]) -> usize
 
 // Begins a run with a number and a bit, and writes the init frame. Refusals 9, then 3.
 pub fn start(number: u32, bit: u8, out: &mut [u8]) -> Answer
-    ensures { λ r. ⌜ StartPromise number bit (now (out .entry)) r (now (out .exit)) ⌝ }
+    ensures { λ r. ⌜ StartPromise number bit (before out) r (after out) ⌝ }
 {
     if number == 0 {
         return refused(9, zero_state());
@@ -132,7 +129,7 @@ pub fn start(number: u32, bit: u8, out: &mut [u8]) -> Answer
 }
 
 // The step of a tray whose senders are all heard, and test 8.
-fn heard_tray(
+fn work_heard(
     fields: Fields,
     heard: &[u32; MAX_NUMBERS],
     candidates: &mut [u32; MAX_NUMBERS],
@@ -141,8 +138,8 @@ fn heard_tray(
     firsts: &[usize; MAX_NUMBERS],
     out: &mut [u8],
 ) -> Worked
-    requires { ⌜ Ready (stateOf fields (now heard) (now candidates) (now echoes)) (now tray) (now firsts) × (fields .round < lastRound) × (maxFrame ≤ length (now out)) ⌝ }
-    ensures { λ r. ⌜ Promise (cond (listsFit (view (stateOf fields (now (heard .entry)) (now (candidates .entry)) (now (echoes .entry)))) (entries (now (tray .entry)))) 0 8) (next (view (stateOf fields (now (heard .entry)) (now (candidates .entry)) (now (echoes .entry)))) (entries (now (tray .entry)))) (stateOf fields (now (heard .entry)) (now (candidates .entry)) (now (echoes .entry))) (now (out .entry)) (answerOf r (now (heard .entry)) (now (candidates .exit)) (now (echoes .exit))) (now (out .exit)) ⌝ }
+    requires { ⌜ HeardTray (stateGiven fields heard candidates echoes) (now tray) (now firsts) (length (now out)) ⌝ }
+    ensures { λ r. ⌜ LastTest fields heard candidates echoes tray out r ⌝ }
 {
     let made = step(fields, heard, candidates, echoes, tray, firsts);
     let fits = made.fits;
@@ -155,12 +152,12 @@ fn heard_tray(
             length,
         }
     } else {
-        left(8, fields)
+        refused_in_place(8, fields)
     }
 }
 
 // Tests 6 and 7, where a sender is new or the own number.
-fn new_tray(
+fn work_new_senders(
     fields: Fields,
     heard: &mut [u32; MAX_NUMBERS],
     candidates: &mut [u32; MAX_NUMBERS],
@@ -168,8 +165,8 @@ fn new_tray(
     tray: &[u8],
     out: &mut [u8],
 ) -> Worked
-    requires { ⌜ Checked (stateOf fields (now heard) (now candidates) (now echoes)) (now tray) (length (now out)) ⌝ }
-    ensures { λ r. ⌜ TrayPromise (stateOf fields (now (heard .entry)) (now (candidates .entry)) (now (echoes .entry))) (now (tray .entry)) (now (out .entry)) (answerOf r (now (heard .exit)) (now (candidates .exit)) (now (echoes .exit))) (now (out .exit)) ⌝ }
+    requires { ⌜ Checked (stateGiven fields heard candidates echoes) (now tray) (length (now out)) ⌝ }
+    ensures { λ r. ⌜ WorkPromise fields heard candidates echoes tray out r ⌝ }
 {
     if senders_fit(tray, fields.own) {
         let mut after = *heard;
@@ -179,23 +176,23 @@ fn new_tray(
             more.heard = len;
             let mut firsts = [entry_count(tray); MAX_NUMBERS];
             first_entries(tray, fields.own, &after, len, &mut firsts);
-            let worked = heard_tray(more, &after, candidates, echoes, tray, &firsts, out);
+            let worked = work_heard(more, &after, candidates, echoes, tray, &firsts, out);
             if worked.refusal == 0 {
                 *heard = after;
                 worked
             } else {
-                left(8, fields)
+                refused_in_place(8, fields)
             }
         } else {
-            left(7, fields)
+            refused_in_place(7, fields)
         }
     } else {
-        left(6, fields)
+        refused_in_place(6, fields)
     }
 }
 
 // Tests 6 to 8. Where all senders are heard, neither 6 nor 7 can be.
-fn checked_tray(
+fn work_checked(
     fields: Fields,
     heard: &mut [u32; MAX_NUMBERS],
     candidates: &mut [u32; MAX_NUMBERS],
@@ -203,37 +200,40 @@ fn checked_tray(
     tray: &[u8],
     out: &mut [u8],
 ) -> Worked
-    requires { ⌜ Checked (stateOf fields (now heard) (now candidates) (now echoes)) (now tray) (length (now out)) ⌝ }
-    ensures { λ r. ⌜ TrayPromise (stateOf fields (now (heard .entry)) (now (candidates .entry)) (now (echoes .entry))) (now (tray .entry)) (now (out .entry)) (answerOf r (now (heard .exit)) (now (candidates .exit)) (now (echoes .exit))) (now (out .exit)) ⌝ }
+    requires { ⌜ Checked (stateGiven fields heard candidates echoes) (now tray) (length (now out)) ⌝ }
+    ensures { λ r. ⌜ WorkPromise fields heard candidates echoes tray out r ⌝ }
 {
     let mut firsts = [entry_count(tray); MAX_NUMBERS];
     if first_entries(tray, fields.own, heard, fields.heard, &mut firsts) {
-        heard_tray(fields, heard, candidates, echoes, tray, &firsts, out)
+        work_heard(fields, heard, candidates, echoes, tray, &firsts, out)
     } else {
-        new_tray(fields, heard, candidates, echoes, tray, out)
+        work_new_senders(fields, heard, candidates, echoes, tray, out)
     }
 }
 
-// Tests 4 and 5.
-fn roomy_tray(
+// Tests 1 to 5, in their order: the number of the first that fails, 0 where none does. They look at no sender and no frame.
+fn early_refusal(
     fields: Fields,
-    heard: &mut [u32; MAX_NUMBERS],
-    candidates: &mut [u32; MAX_NUMBERS],
-    echoes: &mut [u32; MAX_NUMBERS],
+    heard: &[u32; MAX_NUMBERS],
+    candidates: &[u32; MAX_NUMBERS],
+    echoes: &[u32; MAX_NUMBERS],
     tray: &[u8],
-    out: &mut [u8],
-) -> Worked
-    requires { ⌜ (sound (stateOf fields (now heard) (now candidates) (now echoes)) ≡ true) × (fields .round < lastRound) × (maxFrame ≤ length (now out)) ⌝ }
-    ensures { λ r. ⌜ TrayPromise (stateOf fields (now (heard .entry)) (now (candidates .entry)) (now (echoes .entry))) (now (tray .entry)) (now (out .entry)) (answerOf r (now (heard .exit)) (now (candidates .exit)) (now (echoes .exit))) (now (out .exit)) ⌝ }
+    room: usize,
+) -> u8
+    ensures { λ r. ⌜ r ≡ earlyRefusal (stateBefore fields heard candidates echoes) (before tray) room ⌝ }
 {
-    if well_formed(tray) {
-        if tray_round(tray) == fields.round {
-            checked_tray(fields, heard, candidates, echoes, tray, out)
-        } else {
-            left(5, fields)
-        }
+    if !is_sound(fields, heard, candidates, echoes) {
+        1
+    } else if LAST_ROUND <= fields.round {
+        2
+    } else if room < MAX_FRAME {
+        3
+    } else if !well_formed(tray) {
+        4
+    } else if tray_round(tray) != fields.round {
+        5
     } else {
-        left(4, fields)
+        0
     }
 }
 
@@ -246,24 +246,19 @@ pub fn work(
     tray: &[u8],
     out: &mut [u8],
 ) -> Worked
-    ensures { λ r. ⌜ TrayPromise (stateOf fields (now (heard .entry)) (now (candidates .entry)) (now (echoes .entry))) (now (tray .entry)) (now (out .entry)) (answerOf r (now (heard .exit)) (now (candidates .exit)) (now (echoes .exit))) (now (out .exit)) ⌝ }
+    ensures { λ r. ⌜ WorkPromise fields heard candidates echoes tray out r ⌝ }
 {
-    if is_sound(fields, heard, candidates, echoes) {
-        if LAST_ROUND <= fields.round {
-            return left(2, fields);
-        }
-        if out.len() < MAX_FRAME {
-            return left(3, fields);
-        }
-        roomy_tray(fields, heard, candidates, echoes, tray, out)
+    let refusal = early_refusal(fields, heard, candidates, echoes, tray, out.len());
+    if refusal == 0 {
+        work_checked(fields, heard, candidates, echoes, tray, out)
     } else {
-        left(1, fields)
+        refused_in_place(refusal, fields)
     }
 }
 
 // Works a tray of the state's round and writes the next frame, or refuses it.
 pub fn tray(state: State, tray: &[u8], out: &mut [u8]) -> Answer
-    ensures { λ r. ⌜ TrayPromise state (now (tray .entry)) (now (out .entry)) r (now (out .exit)) ⌝ }
+    ensures { λ r. ⌜ TrayPromise state (before tray) (before out) r (after out) ⌝ }
 {
     let mut heard = state.heard;
     let mut candidates = state.candidates;

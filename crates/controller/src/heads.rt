@@ -5,7 +5,10 @@ ghost use mathlib.Core.List.{List};
 ghost use mathlib.Core.Path.{_≡_};
 ghost use Prim.Native.Nat.{ℕ, _*_, _/_, _≤_, _<_};
 ghost use lib.ListN.{length, getD};
-ghost use Rattle.controller.specs.Walk.{endMark, maxLists, openList, Lies, Opens, keyOf, Standing, Moves, lesserOf, siblingOf, Ordered, Roomy, Passes};
+ghost use Rattle.wire.specs.Lent.{before, after};
+ghost use Rattle.controller.specs.Work.Opened.{endMark, maxLists, Opens};
+ghost use Rattle.controller.specs.Work.Heads.{slots, keyOf, lesserOf, siblingOf, Ordered, Roomy, LinesUp, Movable};
+ghost use Rattle.controller.specs.Work.Heads.{MovesOn, Passable, PassesOn, Readable, listBefore};
 use crate::opened::number_in;
 
 // Keys are number * SLOTS + list.
@@ -33,9 +36,8 @@ fn sibling(i: usize) -> usize
 
 // The key of place `i` of list `j`.
 fn key_at(own: &[u32], tray: &[u8], starts: &[usize], counts: &[usize], j: usize, i: usize) -> usize
-    requires { ⌜ (j < maxLists) × (length (now starts) ≡ maxLists) × (length (now counts) ≡ maxLists)
-        × Lies (now own) (now tray) j (getD (now starts) j 0) (getD (now counts) j 0) ⌝ }
-    ensures { λ r. ⌜ r ≡ keyOf j (getD (openList (now (own .entry)) (now (tray .entry)) (now (starts .entry)) (now (counts .entry)) j) i endMark) ⌝ }
+    requires { ⌜ (j < maxLists) × Readable own tray starts counts j ⌝ }
+    ensures { λ r. ⌜ r ≡ keyOf j (getD (listBefore own tray starts counts j) i endMark) ⌝ }
 {
     number_in(own, tray, j, starts[j], counts[j], i) * SLOTS + j
 }
@@ -53,11 +55,8 @@ fn move_on(
     nexts: &mut [usize],
     at: &mut [usize],
 ) -> usize
-    requires { ⌜ (j < len) × (len ≤ maxLists) × (length (now starts) ≡ maxLists) × (length (now counts) ≡ maxLists)
-        × Lies (now own) (now tray) j (getD (now starts) j 0) (getD (now counts) j 0) × Roomy (now tree) (now nexts) (now at)
-        × (getD (now at) j 0 ≤ maxLists) ⌝ }
-    ensures { λ r. ⌜ Moves (openList (now (own .entry)) (now (tray .entry)) (now (starts .entry)) (now (counts .entry)) j) len j (now (tree .entry))
-        (now (nexts .entry)) (now (at .entry)) r (now (tree .exit)) (now (nexts .exit)) (now (at .exit)) ⌝ }
+    requires { ⌜ Movable len j tree nexts at × Readable own tray starts counts j ⌝ }
+    ensures { λ r. ⌜ MovesOn (listBefore own tray starts counts j) len j tree nexts at r ⌝ }
 {
     let key = nexts[j];
     let i = at[j] + 1;
@@ -70,7 +69,7 @@ fn move_on(
 // Makes the inner nodes of a tree from its leaves.
 fn build(tree: &mut [usize], len: usize)
     requires { ⌜ (0 < len) × (2 * len ≤ length (now tree)) ⌝ }
-    ensures { λ r. ⌜ Ordered (now (tree .exit)) len × ((p : ℕ) → len ≤ p → getD (now (tree .exit)) p 0 ≡ getD (now (tree .entry)) p 0) ⌝ }
+    ensures { λ r. ⌜ Ordered (after tree) len × ((p : ℕ) → len ≤ p → getD (after tree) p 0 ≡ getD (before tree) p 0) ⌝ }
 {
     let mut i = len;
     while 1 < i {
@@ -91,9 +90,7 @@ pub(crate) fn line_up(
     at: &mut [usize],
 )
     requires { ⌜ ((w : List ℕ) × Opens (now own) (now tray) (now starts) (now counts) w len) × Roomy (now tree) (now nexts) (now at) ⌝ }
-    ensures { λ r. ⌜ Ordered (now (tree .exit)) len
-        × Standing (now (own .entry)) (now (tray .entry)) (now (starts .entry)) (now (counts .entry)) len 0 (now (tree .exit)) (now (nexts .exit))
-        (now (at .exit)) ⌝ }
+    ensures { λ r. ⌜ LinesUp own tray starts counts len tree nexts at ⌝ }
 {
     let mut j = 0;
     while j < len {
@@ -119,11 +116,8 @@ pub(crate) fn pass(
     nexts: &mut [usize],
     at: &mut [usize],
 ) -> Passed
-    requires { ⌜ Opens (now own) (now tray) (now starts) (now counts) (now sent) len × Roomy (now tree) (now nexts) (now at)
-        × (first ≡ getD (now tree) 1 0) × (first / 128 < endMark) × Ordered (now tree) len
-        × Standing (now own) (now tray) (now starts) (now counts) len (first / 128) (now tree) (now nexts) (now at) ⌝ }
-    ensures { λ r. ⌜ Passes (now (own .entry)) (now (tray .entry)) (now (starts .entry)) (now (counts .entry)) (now (sent .entry)) len
-        (first / 128) r (now (tree .exit)) (now (nexts .exit)) (now (at .exit)) ⌝ }
+    requires { ⌜ Passable own tray starts counts sent len first tree nexts at ⌝ }
+    ensures { λ r. ⌜ PassesOn own tray starts counts sent len (first / slots) r tree nexts at ⌝ }
 {
     let limit = (first / SLOTS + 1) * SLOTS;
     let mut j = first % SLOTS;

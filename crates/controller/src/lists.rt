@@ -3,11 +3,13 @@ ghost use mathlib.Core.Bool.{true};
 ghost use mathlib.Core.List.{[]};
 ghost use mathlib.Core.Path.{_≡_};
 ghost use Prim.Native.Nat.{_+_, _≤_, _<_};
+ghost use lib.ListN.{length, take};
+ghost use Rattle.wire.specs.Lent.{before, after};
 ghost use Rattle.wire.specs.Limits.{maxNumbers};
 ghost use Rattle.wire.specs.Numbers.{stored, listed};
-ghost use Rattle.controller.specs.Lists.{mem};
+ghost use Rattle.controller.specs.Lists.{mem, Rising};
 ghost use Rattle.controller.specs.State.{soundList};
-ghost use Rattle.controller.specs.Storage.{below, insertedAt};
+ghost use Rattle.controller.specs.Work.Lists.{inPlaces, below, insertedAt};
 use wire::frame::Numbers;
 use wire::limits::MAX_NUMBERS;
 
@@ -22,8 +24,8 @@ pub(crate) fn no_numbers() -> Numbers
 
 // How many of the first `len` numbers are below `x`: the place where `x` stands or belongs.
 pub(crate) fn place_in(at: &[u32; MAX_NUMBERS], len: usize, x: u32) -> usize
-    requires { ⌜ soundList (record { len = len; at = now at }) ≡ true ⌝ }
-    ensures { λ r. ⌜ r ≡ below x (listed (record { len = len; at = now (at .entry) })) ⌝ }
+    requires { ⌜ soundList (inPlaces len (now at)) ≡ true ⌝ }
+    ensures { λ r. ⌜ r ≡ below x (listed (inPlaces len (before at))) ⌝ }
 {
     let mut low = 0;
     let mut high = len;
@@ -40,8 +42,8 @@ pub(crate) fn place_in(at: &[u32; MAX_NUMBERS], len: usize, x: u32) -> usize
 
 // The same, by a look at a likely place first: directories mostly go by rising senders.
 pub(crate) fn place_near(at: &[u32; MAX_NUMBERS], len: usize, x: u32, guess: usize) -> usize
-    requires { ⌜ soundList (record { len = len; at = now at }) ≡ true ⌝ }
-    ensures { λ r. ⌜ r ≡ below x (listed (record { len = len; at = now (at .entry) })) ⌝ }
+    requires { ⌜ soundList (inPlaces len (now at)) ≡ true ⌝ }
+    ensures { λ r. ⌜ r ≡ below x (listed (inPlaces len (before at))) ⌝ }
 {
     if guess < len {
         if at[guess] == x {
@@ -51,17 +53,32 @@ pub(crate) fn place_near(at: &[u32; MAX_NUMBERS], len: usize, x: u32, guess: usi
     place_in(at, len, x)
 }
 
+// The place where `x` stands or belongs in a rising list, searched from a place on that is not behind it.
+pub(crate) fn place_from(list: &[u32], len: usize, from: usize, x: u32) -> usize
+    requires { ⌜ Rising (take len (now list)) × (len ≤ length (now list)) × (from ≤ below x (take len (now list))) ⌝ }
+    ensures { λ r. ⌜ r ≡ below x (take len (before list)) ⌝ }
+{
+    let mut i = from;
+    while i < len {
+        if x <= list[i] {
+            return i;
+        }
+        i += 1;
+    }
+    i
+}
+
 // Whether `x` stands at its place `i`.
 pub(crate) fn has_at(at: &[u32; MAX_NUMBERS], len: usize, i: usize, x: u32) -> bool
-    requires { ⌜ (soundList (record { len = len; at = now at }) ≡ true) × (i ≡ below x (listed (record { len = len; at = now at }))) ⌝ }
-    ensures { λ r. ⌜ r ≡ mem x (listed (record { len = len; at = now (at .entry) })) ⌝ }
+    requires { ⌜ (soundList (inPlaces len (now at)) ≡ true) × (i ≡ below x (listed (inPlaces len (now at)))) ⌝ }
+    ensures { λ r. ⌜ r ≡ mem x (listed (inPlaces len (before at))) ⌝ }
 {
-    if i < len { at[i] == x } else { false }
+    (i < len) && (at[i] == x)
 }
 
 pub(crate) fn has(at: &[u32; MAX_NUMBERS], len: usize, x: u32) -> bool
-    requires { ⌜ soundList (record { len = len; at = now at }) ≡ true ⌝ }
-    ensures { λ r. ⌜ r ≡ mem x (listed (record { len = len; at = now (at .entry) })) ⌝ }
+    requires { ⌜ soundList (inPlaces len (now at)) ≡ true ⌝ }
+    ensures { λ r. ⌜ r ≡ mem x (listed (inPlaces len (before at))) ⌝ }
 {
     let i = place_in(at, len, x);
     has_at(at, len, i, x)
@@ -69,8 +86,8 @@ pub(crate) fn has(at: &[u32; MAX_NUMBERS], len: usize, x: u32) -> bool
 
 // Puts `x` in at place `to`, the numbers from there on one place further.
 pub(crate) fn insert_at(at: &mut [u32; MAX_NUMBERS], len: usize, to: usize, x: u32)
-    requires { ⌜ (soundList (record { len = len; at = now at }) ≡ true) × (to ≤ len) × (len < maxNumbers) ⌝ }
-    ensures { λ r. ⌜ record { len = len + 1; at = now (at .exit) } ≡ stored (insertedAt to x (listed (record { len = len; at = now (at .entry) }))) ⌝ }
+    requires { ⌜ (soundList (inPlaces len (now at)) ≡ true) × (to ≤ len) × (len < maxNumbers) ⌝ }
+    ensures { λ r. ⌜ inPlaces (len + 1) (after at) ≡ stored (insertedAt to x (listed (inPlaces len (before at)))) ⌝ }
 {
     let mut i = len;
     while to < i {

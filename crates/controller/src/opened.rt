@@ -3,23 +3,26 @@
 ghost use mathlib.Core.Bool.{true};
 ghost use mathlib.Core.List.{[]};
 ghost use mathlib.Core.Path.{_≡_};
-ghost use Prim.Native.Nat.{ℕ, _+_, _*_, _≤_, _<_};
+ghost use Prim.Native.Nat.{_≤_, _<_};
 ghost use lib.ListN.{length, getD, take};
+ghost use Rattle.wire.specs.Lent.{before, after};
+ghost use Rattle.wire.specs.Frame.{content};
 ghost use Rattle.wire.specs.Limits.{maxNumbers};
 ghost use Rattle.wire.specs.Tray.{place, bytesAt};
 ghost use Rattle.wire.specs.Words.{wordsAt};
 ghost use Rattle.controller.specs.Fields.{stateOf};
 ghost use Rattle.controller.specs.Received.{readIn, listIn};
-ghost use Rattle.controller.specs.Storage.{listUnder};
-ghost use Rattle.controller.specs.Walk.{endMark, maxLists, listFrom, Lies, SpanOf, Adds, sentCount, Openable, OpensAll};
+ghost use Rattle.controller.specs.Work.Opened.{listUnder, endMark, listFrom, Lies, SpanOf, Openable, OpensAll, AddsTo, Openings, OwnFirst, SpanIn, NumbersIn, startLimit};
 use crate::alike::alike;
+use crate::received::NOTHING_SAID;
+use crate::received::frame_bit;
 use crate::received::sent_count;
 use crate::state::Fields;
-use wire::frame::read_count;
-use wire::frame::read_number;
 use wire::limits::FRAME_HEADER;
 use wire::limits::MAX_NUMBERS;
 use wire::limits::NUMBER_WIDTH;
+use wire::read::number_count;
+use wire::read::read_number;
 use wire::tray::Found;
 use wire::tray::entry_place;
 use wire::tray::part_of;
@@ -35,16 +38,27 @@ pub(crate) struct Span {
     pub count: usize,
 }
 
+// How many numbers bytes list in a round; 0 where they are void, which is where nothing is said.
+fn list_count(bytes: &[u8], round: u32) -> usize
+    ensures { λ r. ⌜ r ≡ length (listIn (content (before bytes) round)) ⌝ }
+{
+    if frame_bit(bytes, round) == NOTHING_SAID {
+        0
+    } else {
+        number_count(bytes)
+    }
+}
+
 // The list of an entry's frame; an empty one where the frame is void or there is no such entry.
 fn list_of(tray: &[u8], entry: usize, round: u32) -> Span
-    ensures { λ r. ⌜ SpanOf (now (tray .entry)) (listIn (readIn round (bytesAt (now (tray .entry)) (place (now (tray .entry)) entry)))) (r .start)
-        (r .count) ⌝ }
+    ensures { λ r. ⌜ SpanOf (before tray) (listIn (readIn round (bytesAt (before tray) (place (before tray) entry))))
+        (r .start) (r .count) ⌝ }
 {
     let found = entry_place(tray, entry);
     match found {
         Found::At(offset, len) => Span {
             start: offset + FRAME_HEADER,
-            count: read_count(part_of(tray, offset, len), round),
+            count: list_count(part_of(tray, offset, len), round),
         },
         Found::Nothing => Span { start: 0, count: 0 },
     }
@@ -52,8 +66,8 @@ fn list_of(tray: &[u8], entry: usize, round: u32) -> Span
 
 // Whether the list that lies at a place of the tray has the numbers of the own list.
 fn same_list(tray: &[u8], start: usize, own: &[u32], count: usize) -> bool
-    requires { ⌜ (start < 65552) × (count ≤ maxNumbers) × (count ≤ length (now own)) × ((i : ℕ) → i < count → start + 4 * i + 4 ≤ length (now tray)) ⌝ }
-    ensures { λ r. ⌜ (r ≡ true → wordsAt (now (tray .entry)) start count ≡ take count (now (own .entry))) ⌝ }
+    requires { ⌜ (start < startLimit) × (count ≤ maxNumbers) × (count ≤ length (now own)) × NumbersIn (now tray) start count ⌝ }
+    ensures { λ r. ⌜ (r ≡ true → wordsAt (before tray) start count ≡ take count (before own)) ⌝ }
 {
     let mut i = 0;
     while i < count {
@@ -75,7 +89,7 @@ pub(crate) fn number_in(
     i: usize,
 ) -> usize
     requires { ⌜ Lies (now own) (now tray) j start count ⌝ }
-    ensures { λ r. ⌜ (r ≡ getD (listFrom (now (own .entry)) (now (tray .entry)) j start count) i endMark) × (r ≤ endMark) ⌝ }
+    ensures { λ r. ⌜ (r ≡ getD (listFrom (before own) (before tray) j start count) i endMark) × (r ≤ endMark) ⌝ }
 {
     if i < count {
         if j == 0 {
@@ -99,11 +113,8 @@ fn open_list(
     sent: &mut [usize],
     len: usize,
 ) -> usize
-    requires { ⌜ (len < maxLists) × (length (now starts) ≡ maxLists) × (length (now counts) ≡ maxLists) × (length (now sent) ≡ maxLists)
-        × (getD (now sent) 0 0 ≤ maxNumbers) × (weight ≤ maxNumbers) × (getD (now counts) 0 0 ≤ maxNumbers) × (maxNumbers ≤ length (now own))
-        × SpanOf (now tray) (wordsAt (now tray) (list .start) (list .count)) (list .start) (list .count) ⌝ }
-    ensures { λ r. ⌜ Adds (now (own .entry)) (now (tray .entry)) (wordsAt (now (tray .entry)) (list .start) (list .count)) weight len
-        (now (starts .entry)) (now (counts .entry)) (now (sent .entry)) (now (starts .exit)) (now (counts .exit)) (now (sent .exit)) r ⌝ }
+    requires { ⌜ Openings (now own) (now starts) (now counts) (now sent) len weight × (getD (now counts) 0 0 ≤ maxNumbers) × SpanIn (now tray) list ⌝ }
+    ensures { λ r. ⌜ AddsTo own tray (wordsAt (before tray) (list .start) (list .count)) weight len starts counts sent r ⌝ }
 {
     let start = list.start;
     let count = list.count;
@@ -132,11 +143,8 @@ fn open_received(
     sent: &mut [usize],
     len: usize,
 ) -> usize
-    requires { ⌜ (len < maxLists) × (length (now starts) ≡ maxLists) × (length (now counts) ≡ maxLists) × (length (now sent) ≡ maxLists)
-        × (getD (now sent) 0 0 ≤ maxNumbers) × (weight ≤ maxNumbers) × (getD (now counts) 0 0 ≡ sentCount fields)
-        × (sentCount fields ≤ maxNumbers) × (maxNumbers ≤ length (now own)) ⌝ }
-    ensures { λ r. ⌜ Adds (now (own .entry)) (now (tray .entry)) (listUnder fields (now (own .entry)) (now (tray .entry)) x entry) weight len
-        (now (starts .entry)) (now (counts .entry)) (now (sent .entry)) (now (starts .exit)) (now (counts .exit)) (now (sent .exit)) r ⌝ }
+    requires { ⌜ Openings (now own) (now starts) (now counts) (now sent) len weight × OwnFirst fields (now counts) ⌝ }
+    ensures { λ r. ⌜ AddsTo own tray (listUnder fields (before own) (before tray) x entry) weight len starts counts sent r ⌝ }
 {
     if x == fields.own {
         sent[0] += weight;
@@ -159,8 +167,8 @@ pub(crate) fn open_lists(
     sent: &mut [usize],
 ) -> usize
     requires { ⌜ Openable fields (now heard) (now own) (now tray) (now firsts) (now starts) (now counts) (now sent) ⌝ }
-    ensures { λ r. ⌜ OpensAll (stateOf fields (now (heard .entry)) [] (now (own .entry))) (now (tray .entry)) (now (starts .exit))
-        (now (counts .exit)) (now (sent .exit)) r ⌝ }
+    ensures { λ r. ⌜ OpensAll (stateOf fields (before heard) [] (before own)) (before tray) (after starts)
+        (after counts) (after sent) r ⌝ }
 {
     counts[0] = sent_count(fields);
     let mut len = 1;

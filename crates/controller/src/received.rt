@@ -1,27 +1,28 @@
 // What is received in a round: who is heard, and what the frame under each heard number says.
 ghost use mathlib.Core.Bool.{true, not, cond, _&&_};
-ghost use mathlib.Core.List.{List};
 ghost use mathlib.Core.Path.{_≡_};
-ghost use Prim.Native.Nat.{ℕ, _<_, _≤_};
-ghost use lib.Dec.{eqb, ltb};
-ghost use lib.ListN.{getD};
-ghost use Rattle.wire.specs.Frame.{kindOf, maxCount, bitIn};
+ghost use Prim.Native.Nat.{_≤_};
+ghost use lib.Dec.{eqb};
+ghost use Rattle.wire.specs.Lent.{before, after};
+ghost use Rattle.wire.specs.Frame.{content, kindOf, bitIn};
 ghost use Rattle.wire.specs.Limits.{maxNumbers};
 ghost use Rattle.wire.specs.Numbers.{listed};
-ghost use Rattle.wire.specs.Tray.{wellFormed, entryCount, entries, place, bytesAt};
-ghost use Rattle.controller.specs.Fields.{stateOf};
+ghost use Rattle.wire.specs.Tray.{wellFormed, entries, place, bytesAt};
 ghost use Rattle.controller.specs.Lists.{In, mem, insertAll};
-ghost use Rattle.controller.specs.State.{view, soundList};
+ghost use Rattle.controller.specs.State.{soundList};
 ghost use Rattle.controller.specs.Received.{senders, readIn};
-ghost use Rattle.controller.specs.Storage.{Ready, Hears, Finds, bitUnder, CountsBits};
+ghost use Rattle.controller.specs.Work.Received.{receivedBy, Hears, Finds, bitUnder, CountsBits, NoEntries, WhereReady, sentCount, CountsFew};
+ghost use Rattle.controller.specs.Work.Lists.{inPlaces, inPlaces};
 use crate::lists::has_at;
 use crate::lists::insert_at;
 use crate::lists::place_near;
 use crate::state::Fields;
+use wire::frame::Read;
+use wire::frame::bit_said;
 use wire::frame::kind_of;
 use wire::frame::max_count;
-use wire::frame::read_bit;
 use wire::limits::MAX_NUMBERS;
+use wire::read::read_frame;
 use wire::tray::Found;
 use wire::tray::entry_count;
 use wire::tray::entry_place;
@@ -31,7 +32,7 @@ use wire::tray::part_of;
 // Whether no sender in the directory is 0 or the own number.
 pub(crate) fn senders_fit(tray: &[u8], own: u32) -> bool
     requires { ⌜ wellFormed (now tray) ≡ true ⌝ }
-    ensures { λ r. ⌜ r ≡ (not (mem 0 (senders (entries (now (tray .entry))))) && not (mem own (senders (entries (now (tray .entry)))))) ⌝ }
+    ensures { λ r. ⌜ r ≡ (not (mem 0 (senders (entries (before tray)))) && not (mem own (senders (entries (before tray))))) ⌝ }
 {
     let count = entry_count(tray);
     let mut i = 0;
@@ -50,8 +51,8 @@ pub(crate) fn senders_fit(tray: &[u8], own: u32) -> bool
 
 // Puts the directory's senders into heard, and returns its length; 65 where it would have more than 64 numbers.
 pub(crate) fn hear(tray: &[u8], heard: &mut [u32; MAX_NUMBERS], len: usize) -> usize
-    requires { ⌜ (wellFormed (now tray) ≡ true) × (soundList (record { len = len; at = now heard }) ≡ true) × (¬ In 0 (senders (entries (now tray)))) ⌝ }
-    ensures { λ r. ⌜ Hears (insertAll (senders (entries (now (tray .entry)))) (listed (record { len = len; at = now (heard .entry) }))) r (now (heard .exit)) ⌝ }
+    requires { ⌜ (wellFormed (now tray) ≡ true) × (soundList (inPlaces len (now heard)) ≡ true) × (¬ In 0 (senders (entries (now tray)))) ⌝ }
+    ensures { λ r. ⌜ Hears (insertAll (senders (entries (before tray))) (listed (inPlaces len (before heard)))) r (after heard) ⌝ }
 {
     let count = entry_count(tray);
     let mut n = len;
@@ -84,8 +85,8 @@ pub(crate) fn first_entries(
     len: usize,
     firsts: &mut [usize; MAX_NUMBERS],
 ) -> bool
-    requires { ⌜ (wellFormed (now tray) ≡ true) × (soundList (record { len = len; at = now heard }) ≡ true) × ((j : ℕ) → j < maxNumbers → getD (now firsts) j 0 ≡ entryCount (now tray)) ⌝ }
-    ensures { λ r. ⌜ Finds own (now (tray .entry)) (listed (record { len = len; at = now (heard .entry) })) r (now (firsts .exit)) ⌝ }
+    requires { ⌜ (wellFormed (now tray) ≡ true) × (soundList (inPlaces len (now heard)) ≡ true) × NoEntries (now tray) (now firsts) ⌝ }
+    ensures { λ r. ⌜ Finds own (before tray) (listed (inPlaces len (before heard))) r (after firsts) ⌝ }
 {
     let mut next = 0;
     let mut i = entry_count(tray);
@@ -106,20 +107,37 @@ pub(crate) fn first_entries(
     true
 }
 
-// The bit of an entry's frame, read in a round; 3 where it is void or there is no such entry.
+// In the place of a bit, for bytes that are void and for an entry that is not there. No frame says it.
+pub(crate) const NOTHING_SAID: u8 = 3;
+
+// The bit that bytes say in a round.
+pub(crate) fn frame_bit(bytes: &[u8], round: u32) -> u8
+    ensures { λ r. ⌜ r ≡ bitIn (content (before bytes) round) ⌝ }
+{
+    let read = read_frame(bytes, round);
+    match read {
+        Read::Valid(frame) => {
+            let said = frame.said;
+            bit_said(said)
+        }
+        Read::Void => NOTHING_SAID,
+    }
+}
+
+// The bit of an entry's frame, read in a round.
 fn entry_bit(tray: &[u8], entry: usize, round: u32) -> u8
-    ensures { λ r. ⌜ r ≡ bitIn (readIn round (bytesAt (now (tray .entry)) (place (now (tray .entry)) entry))) ⌝ }
+    ensures { λ r. ⌜ r ≡ bitIn (readIn round (bytesAt (before tray) (place (before tray) entry))) ⌝ }
 {
     let found = entry_place(tray, entry);
     match found {
-        Found::At(offset, len) => read_bit(part_of(tray, offset, len), round),
-        Found::Nothing => 3,
+        Found::At(offset, len) => frame_bit(part_of(tray, offset, len), round),
+        Found::Nothing => NOTHING_SAID,
     }
 }
 
 // The bit of the frame received under the number `x`, if `entry` is its first entry; 3 where it is void.
 pub(crate) fn received_bit(own: u32, round: u32, said: u8, tray: &[u8], x: u32, entry: usize) -> u8
-    ensures { λ r. ⌜ r ≡ bitUnder own round said (now (tray .entry)) x entry ⌝ }
+    ensures { λ r. ⌜ r ≡ bitUnder own round said (before tray) x entry ⌝ }
 {
     if x == own {
         said
@@ -130,7 +148,7 @@ pub(crate) fn received_bit(own: u32, round: u32, said: u8, tray: &[u8], x: u32, 
 
 // How many of the echoes a state's frame lists: all in a roster and a turn, else none.
 pub(crate) fn sent_count(fields: Fields) -> usize
-    ensures { λ r. ⌜ r ≡ cond (ltb 0 (maxCount (kindOf (fields .round)))) (fields .echoes) 0 ⌝ }
+    ensures { λ r. ⌜ r ≡ sentCount fields ⌝ }
 {
     if 0 < max_count(kind_of(fields.round)) {
         fields.echoes
@@ -160,7 +178,7 @@ pub(crate) fn count_bits(
     firsts: &[usize; MAX_NUMBERS],
 ) -> Counts
     requires { ⌜ fields .heard ≤ maxNumbers ⌝ }
-    ensures { λ r. ⌜ (r .zeros ≤ fields .heard) × (r .ones ≤ fields .heard) × ((c e : List ℕ) → Ready (stateOf fields (now (heard .entry)) c e) (now (tray .entry)) (now (firsts .entry)) → CountsBits (kindOf (fields .round)) (view (stateOf fields (now (heard .entry)) c e)) (entries (now (tray .entry))) r) ⌝ }
+    ensures { λ r. ⌜ CountsFew (fields .heard) r × WhereReady fields heard tray firsts (λ s b. CountsBits (kindOf (s .round)) (receivedBy s b) r) ⌝ }
 {
     let mut zeros = 0;
     let mut ones = 0;

@@ -1,44 +1,29 @@
 // The soundness of a state, document 01's "sound".
-ghost use mathlib.Core.Bool.{true, _&&_, cond};
 ghost use mathlib.Core.Path.{_≡_};
 ghost use Prim.Native.Nat.{_≤_};
-ghost use lib.Dec.{leb, eqb};
 ghost use lib.ListN.{length};
-ghost use Rattle.wire.specs.Frame.{roundFits};
+ghost use Rattle.wire.specs.Lent.{before};
 ghost use Rattle.wire.specs.Limits.{maxNumbers};
-ghost use Rattle.wire.specs.Numbers.{rising, stored, listed};
-ghost use Rattle.controller.specs.Fields.{stateOf, bare};
+ghost use Rattle.wire.specs.Numbers.{stored, listed};
+ghost use Rattle.controller.specs.Fields.{stateOf, stateBefore, bare};
 ghost use Rattle.controller.specs.State.{same, soundList, sound, soundSaid};
+ghost use Rattle.controller.specs.Work.Lists.{inPlaces};
+ghost use Rattle.controller.specs.Work.Sound.{emptySound, bitsSound, fieldsSound, listsSound};
 use crate::lists::has;
 use crate::state::Fields;
 use crate::state::State;
 use wire::frame::bit_fits;
 use wire::frame::kind_of;
+use wire::frame::rise;
 use wire::frame::round_fits;
 use wire::limits::MAX_NUMBERS;
-
-// Whether the numbers in the used places rise strictly from above 0. A loop with no way out is compiled to tests of four numbers at once. The places
-// are lent as a slice, since the making of a slice shows how many an array has.
-fn rises(at: &[u32], len: usize) -> bool
-    requires { ⌜ (len ≤ maxNumbers) × (length (now at) ≡ maxNumbers) ⌝ }
-    ensures { λ r. ⌜ r ≡ rising 0 (listed (record { len = len; at = now (at .entry) })) ⌝ }
-{
-    let mut ok = true;
-    let mut last = 0;
-    let mut i = 0;
-    while i < len {
-        let x = at[i];
-        ok = ok & (last < x);
-        last = x;
-        i += 1;
-    }
-    ok
-}
+use wire::limits::NO_BIT;
+use wire::limits::VALUE;
 
 // Whether the unused places are 0, as they are in the stored form.
 fn unused_zero(at: &[u32], len: usize) -> bool
     requires { ⌜ (len ≤ maxNumbers) × (length (now at) ≡ maxNumbers) ⌝ }
-    ensures { λ r. ⌜ r ≡ same (now (at .entry)) ((stored (listed (record { len = len; at = now (at .entry) }))) .at) ⌝ }
+    ensures { λ r. ⌜ r ≡ same (before at) ((stored (listed (inPlaces len (before at)))) .at) ⌝ }
 {
     let mut ok = true;
     let mut i = len;
@@ -51,74 +36,38 @@ fn unused_zero(at: &[u32], len: usize) -> bool
 
 // Whether the unused places are 0 and the numbers rise: the stored form of a list.
 fn is_list(at: &[u32; MAX_NUMBERS], len: usize) -> bool
-    ensures { λ r. ⌜ r ≡ soundList (record { len = len; at = now (at .entry) }) ⌝ }
+    ensures { λ r. ⌜ r ≡ soundList (inPlaces len (before at)) ⌝ }
 {
-    if len <= MAX_NUMBERS {
-        if rises(at, len) {
-            unused_zero(at, len)
-        } else {
-            false
-        }
-    } else {
-        false
-    }
+    // The making of a slice shows how many places an array has.
+    let places = &at[..];
+    (len <= MAX_NUMBERS) && (rise(&places[0..len]) & unused_zero(places, len))
 }
 
 fn said_sound(fields: Fields) -> bool
     ensures { λ r. ⌜ r ≡ soundSaid (bare fields) ⌝ }
 {
     let kind = kind_of(fields.round);
-    if bit_fits(kind, fields.said) {
-        if kind == 3 {
-            fields.said == fields.bit
-        } else {
-            true
-        }
-    } else {
-        false
-    }
+    bit_fits(kind, fields.said) & ((kind != VALUE) | (fields.said == fields.bit))
 }
 
 // Candidates are empty in rounds 1 and 2, echoes in round 1.
-fn empty_sound(round: u32, candidates: usize, echoes: usize) -> bool
-    ensures { λ r. ⌜ r ≡ (cond (leb round 2) (eqb candidates 0) true && cond (leb round 1) (eqb echoes 0) true) ⌝ }
+fn empty_sound(fields: Fields) -> bool
+    ensures { λ r. ⌜ r ≡ emptySound fields ⌝ }
 {
-    if round <= 1 {
-        if candidates == 0 { echoes == 0 } else { false }
-    } else if round <= 2 {
-        candidates == 0
-    } else {
-        true
-    }
+    ((2 < fields.round) | (fields.candidates == 0)) & ((1 < fields.round) | (fields.echoes == 0))
 }
 
-fn bits_sound(bit: u8, strong: u8, decision: u8) -> bool
-    ensures { λ r. ⌜ r ≡ (leb bit 1 && leb strong 1 && leb decision 2) ⌝ }
+fn bits_sound(fields: Fields) -> bool
+    ensures { λ r. ⌜ r ≡ bitsSound fields ⌝ }
 {
-    if bit <= 1 {
-        if strong <= 1 { decision <= 2 } else { false }
-    } else {
-        false
-    }
+    (fields.bit <= 1) & (fields.strong <= 1) & (fields.decision <= NO_BIT)
 }
 
-// What soundness asks of all but the lists' numbers.
+// What soundness asks of all but the own number and the lists' numbers.
 fn fields_sound(fields: Fields) -> bool
-    ensures { λ r. ⌜ r ≡ (roundFits (fields .round) && soundSaid (bare fields) && (cond (leb (fields .round) 2) (eqb (fields .candidates) 0) true && cond (leb (fields .round) 1) (eqb (fields .echoes) 0) true) && (leb (fields .bit) 1 && leb (fields .strong) 1 && leb (fields .decision) 2)) ⌝ }
+    ensures { λ r. ⌜ r ≡ fieldsSound fields ⌝ }
 {
-    if round_fits(fields.round) {
-        if said_sound(fields) {
-            if empty_sound(fields.round, fields.candidates, fields.echoes) {
-                bits_sound(fields.bit, fields.strong, fields.decision)
-            } else {
-                false
-            }
-        } else {
-            false
-        }
-    } else {
-        false
-    }
+    round_fits(fields.round) & said_sound(fields) & empty_sound(fields) & bits_sound(fields)
 }
 
 // Whether the three lists are in their stored form.
@@ -128,41 +77,24 @@ fn lists_sound(
     candidates: &[u32; MAX_NUMBERS],
     echoes: &[u32; MAX_NUMBERS],
 ) -> bool
-    ensures { λ r. ⌜ r ≡ (soundList (record { len = fields .heard; at = now (heard .entry) }) && soundList (record { len = fields .candidates; at = now (candidates .entry) }) && soundList (record { len = fields .echoes; at = now (echoes .entry) })) ⌝ }
+    ensures { λ r. ⌜ r ≡ listsSound (stateBefore fields heard candidates echoes) ⌝ }
 {
-    if is_list(heard, fields.heard) {
-        if is_list(candidates, fields.candidates) {
-            is_list(echoes, fields.echoes)
-        } else {
-            false
-        }
-    } else {
-        false
-    }
+    is_list(heard, fields.heard)
+        & is_list(candidates, fields.candidates)
+        & is_list(echoes, fields.echoes)
 }
 
-// Whether a state is sound whose fields and lists' places these are.
+// Whether a state is sound whose fields and lists' places these are. The lists come first: only a rising list can be searched for the own number.
 pub fn is_sound(
     fields: Fields,
     heard: &[u32; MAX_NUMBERS],
     candidates: &[u32; MAX_NUMBERS],
     echoes: &[u32; MAX_NUMBERS],
 ) -> bool
-    ensures { λ r. ⌜ r ≡ sound (stateOf fields (now (heard .entry)) (now (candidates .entry)) (now (echoes .entry))) ⌝ }
+    ensures { λ r. ⌜ r ≡ sound (stateBefore fields heard candidates echoes) ⌝ }
 {
-    if lists_sound(fields, heard, candidates, echoes) {
-        if fields_sound(fields) {
-            if fields.own == 0 {
-                false
-            } else {
-                has(heard, fields.heard, fields.own)
-            }
-        } else {
-            false
-        }
-    } else {
-        false
-    }
+    lists_sound(fields, heard, candidates, echoes)
+        && (fields_sound(fields) & (fields.own != 0) & has(heard, fields.heard, fields.own))
 }
 
 // A state's fields, without the places of its lists.

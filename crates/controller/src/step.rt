@@ -1,13 +1,14 @@
 // One step: what a tray makes of a state whose fields and lists are lent. All senders of the tray are heard already.
-ghost use mathlib.Core.Bool.{true};
 ghost use mathlib.Core.List.{List, []};
 ghost use mathlib.Core.Path.{_≡_};
 ghost use Prim.Native.Nat.{ℕ, _+_, _≤_, _<_};
+ghost use Rattle.wire.specs.Lent.{before, after};
 ghost use Rattle.wire.specs.Frame.{kindOf};
 ghost use Rattle.wire.specs.Limits.{maxNumbers, lastRound};
 ghost use Rattle.wire.specs.Numbers.{stored};
-ghost use Rattle.controller.specs.Fields.{stateOf};
-ghost use Rattle.controller.specs.Storage.{Ready, Makes, Grows, namedState};
+ghost use Rattle.controller.specs.Fields.{stateOf, stateGiven};
+ghost use Rattle.controller.specs.Work.Received.{Ready, WhereReady};
+ghost use Rattle.controller.specs.Work.Step.{namedState, Due, MakesFields, MakesGrown, MakesParts, MakesEchoes};
 use crate::bit::bit_taken;
 use crate::bit::proposal;
 use crate::bit::spoken;
@@ -20,6 +21,10 @@ use crate::tally::Lists;
 use crate::tally::grow;
 use wire::frame::kind_of;
 use wire::limits::MAX_NUMBERS;
+use wire::limits::NO_BIT;
+use wire::limits::PROPOSE;
+use wire::limits::ROSTER;
+use wire::limits::VALUE;
 
 // The fields that a step makes; `fits` is false where candidates or echoes would be more than 64.
 pub(crate) struct Made {
@@ -30,14 +35,14 @@ pub(crate) struct Made {
 // (c): the fields `next`, whose lists and bit are made, with the decision and the king that follow from the decision `was` before the step.
 fn named(next: Fields, was: u8, candidates: &[u32; MAX_NUMBERS], phase: usize) -> Fields
     requires { ⌜ next .candidates ≤ maxNumbers ⌝ }
-    ensures { λ r. ⌜ ((h e : List ℕ) → stateOf r h (now (candidates .entry)) e ≡ namedState (stateOf next h (now (candidates .entry)) e) was phase) ⌝ }
+    ensures { λ r. ⌜ ((h e : List ℕ) → stateOf r h (before candidates) e ≡ namedState (stateOf next h (before candidates) e) was phase) ⌝ }
 {
     let mut made = next;
     if decides(was, next.candidates, phase) {
         made.decision = next.bit;
         made.king = 0;
         made
-    } else if was == 2 {
+    } else if was == NO_BIT {
         made.king = king_at(candidates, next.candidates, phase);
         made
     } else {
@@ -54,7 +59,7 @@ fn make_roster(
     echoes: &mut [u32; MAX_NUMBERS],
 ) -> Fields
     requires { ⌜ (fields .heard ≤ maxNumbers) × (fields .round < lastRound) × (now echoes ≡ (stored []) .at) ⌝ }
-    ensures { λ r. ⌜ ((c : List ℕ) → Ready (stateOf fields (now (heard .entry)) c (now (echoes .entry))) (now (tray .entry)) (now (firsts .entry)) → kindOf (fields .round + 1) ≡ 2 → Makes (stateOf fields (now (heard .entry)) c (now (echoes .entry))) (now (tray .entry)) true (stateOf r (now (heard .entry)) c (now (echoes .exit)))) ⌝ }
+    ensures { λ r. ⌜ WhereReady fields heard tray firsts (λ s b. kindOf (s .round + 1) ≡ 2 → MakesEchoes s b r (after echoes)) ⌝ }
 {
     let mut next = fields;
     next.echoes = roster(fields, heard, tray, firsts, echoes);
@@ -69,7 +74,7 @@ fn make_propose(
     firsts: &[usize; MAX_NUMBERS],
 ) -> Fields
     requires { ⌜ (fields .heard ≤ maxNumbers) × (fields .round < lastRound) ⌝ }
-    ensures { λ r. ⌜ ((c e : List ℕ) → Ready (stateOf fields (now (heard .entry)) c e) (now (tray .entry)) (now (firsts .entry)) → kindOf (fields .round + 1) ≡ 4 → Makes (stateOf fields (now (heard .entry)) c e) (now (tray .entry)) true (stateOf r (now (heard .entry)) c e)) ⌝ }
+    ensures { λ r. ⌜ WhereReady fields heard tray firsts (λ s b. kindOf (s .round + 1) ≡ 4 → MakesFields s b r) ⌝ }
 {
     let mut next = fields;
     let counts = count_bits(fields, heard, tray, firsts);
@@ -85,7 +90,7 @@ fn make_turn(
     firsts: &[usize; MAX_NUMBERS],
 ) -> Fields
     requires { ⌜ (fields .heard ≤ maxNumbers) × (fields .round < lastRound) × (fields .bit ≤ 1) ⌝ }
-    ensures { λ r. ⌜ ((c e : List ℕ) → Ready (stateOf fields (now (heard .entry)) c e) (now (tray .entry)) (now (firsts .entry)) → kindOf (fields .round + 1) ≡ 5 → Makes (stateOf fields (now (heard .entry)) c e) (now (tray .entry)) true (stateOf r (now (heard .entry)) c e)) ⌝ }
+    ensures { λ r. ⌜ WhereReady fields heard tray firsts (λ s b. kindOf (s .round + 1) ≡ 5 → MakesFields s b r) ⌝ }
 {
     let mut next = fields;
     let counts = count_bits(fields, heard, tray, firsts);
@@ -100,7 +105,7 @@ fn make_turn(
 // The fields with the lists that have grown and the bit that was taken; those that were where the lists do not fit.
 fn grown(fields: Fields, lists: Lists, bit: u8, candidates: &[u32; MAX_NUMBERS]) -> Made
     requires { ⌜ (fields .round < lastRound) × (lists .candidates ≤ maxNumbers) ⌝ }
-    ensures { λ r. ⌜ ((b f h c e more : List ℕ) → Grows (stateOf fields h c e) b f lists bit (now (candidates .entry)) more → Makes (stateOf fields h c e) b (r .fits) (stateOf (r .fields) h (now (candidates .entry)) more)) ⌝ }
+    ensures { λ r. ⌜ MakesGrown fields lists bit (before candidates) r ⌝ }
 {
     let mut next = fields;
     let fits = lists.fits;
@@ -136,8 +141,8 @@ fn make_value(
     tray: &[u8],
     firsts: &[usize; MAX_NUMBERS],
 ) -> Made
-    requires { ⌜ Ready (stateOf fields (now heard) (now candidates) (now echoes)) (now tray) (now firsts) × (kindOf (fields .round + 1) ≡ 3) × (fields .round < lastRound) ⌝ }
-    ensures { λ r. ⌜ Makes (stateOf fields (now (heard .entry)) (now (candidates .entry)) (now (echoes .entry))) (now (tray .entry)) (r .fits) (stateOf (r .fields) (now (heard .entry)) (now (candidates .exit)) (now (echoes .exit))) ⌝ }
+    requires { ⌜ Due 3 (stateGiven fields heard candidates echoes) (now tray) (now firsts) ⌝ }
+    ensures { λ r. ⌜ MakesParts fields heard candidates echoes tray r ⌝ }
 {
     let bit = bit_taken(fields, heard, tray, firsts);
     let lists = grow(fields, heard, candidates, echoes, tray, firsts);
@@ -153,19 +158,19 @@ pub(crate) fn step(
     tray: &[u8],
     firsts: &[usize; MAX_NUMBERS],
 ) -> Made
-    requires { ⌜ Ready (stateOf fields (now heard) (now candidates) (now echoes)) (now tray) (now firsts) × (fields .round < lastRound) ⌝ }
-    ensures { λ r. ⌜ Makes (stateOf fields (now (heard .entry)) (now (candidates .entry)) (now (echoes .entry))) (now (tray .entry)) (r .fits) (stateOf (r .fields) (now (heard .entry)) (now (candidates .exit)) (now (echoes .exit))) ⌝ }
+    requires { ⌜ Ready (stateGiven fields heard candidates echoes) (now tray) (now firsts) × (fields .round < lastRound) ⌝ }
+    ensures { λ r. ⌜ MakesParts fields heard candidates echoes tray r ⌝ }
 {
     let kind = kind_of(fields.round + 1);
-    if kind == 2 {
+    if kind == ROSTER {
         let made = make_roster(fields, heard, tray, firsts, echoes);
         Made {
             fits: true,
             fields: made,
         }
-    } else if kind == 3 {
+    } else if kind == VALUE {
         make_value(fields, heard, candidates, echoes, tray, firsts)
-    } else if kind == 4 {
+    } else if kind == PROPOSE {
         let made = make_propose(fields, heard, tray, firsts);
         Made {
             fits: true,

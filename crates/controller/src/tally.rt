@@ -1,19 +1,20 @@
 // The tally of the received lists, and what it makes of echoes and candidates. The lists rise, so one walk goes along all of them together, least number
 // first. It passes each place of a list once, and a number is settled as soon as it is passed.
-ghost use mathlib.Core.Bool.{true, false};
-ghost use mathlib.Core.List.{List, []};
+ghost use mathlib.Core.Bool.{false};
+ghost use mathlib.Core.List.{[]};
 ghost use mathlib.Core.Path.{_≡_};
-ghost use Prim.Native.Nat.{ℕ, _≤_};
-ghost use lib.ListN.{length, take};
+ghost use Rattle.wire.specs.Lent.{before, after};
 ghost use Rattle.wire.specs.Numbers.{stored};
-ghost use Rattle.controller.specs.Fields.{stateOf};
-ghost use Rattle.controller.specs.Lists.{mem, Rising};
-ghost use Rattle.controller.specs.Storage.{below, Ready, GrowsLists};
-ghost use Rattle.controller.specs.Walk.{weighed, Roomy, Settleable, Settles, SettlesOn, Walkable, Sorts, Tallies};
+ghost use Rattle.controller.specs.Fields.{stateBefore, stateGiven};
+ghost use Rattle.controller.specs.Work.Received.{Ready};
+ghost use Rattle.controller.specs.Work.Tally.{GrowsLists, Settleable, Walkable, Tallies, SettlesNext, SortsAll};
+ghost use Rattle.controller.specs.Work.Heads.{Roomy};
 use crate::heads::SLOTS;
 use crate::heads::line_up;
 use crate::heads::pass;
+use crate::lists::has_at;
 use crate::lists::insert_at;
+use crate::lists::place_from;
 use crate::opened::END;
 use crate::opened::MAX_LISTS;
 use crate::opened::open_lists;
@@ -34,29 +35,6 @@ pub(crate) struct Settled {
     pub candidates: usize,
     pub place: usize,
     pub fits: bool,
-}
-
-// The place where `x` stands or belongs in a rising list, searched from a place on that is not behind it.
-fn place_from(list: &[u32], len: usize, from: usize, x: u32) -> usize
-    requires { ⌜ Rising (take len (now list)) × (len ≤ length (now list)) × (from ≤ below x (take len (now list))) ⌝ }
-    ensures { λ r. ⌜ r ≡ below x (take len (now (list .entry))) ⌝ }
-{
-    let mut i = from;
-    while i < len {
-        if x <= list[i] {
-            return i;
-        }
-        i += 1;
-    }
-    i
-}
-
-// Whether `x` stands at its place.
-fn stands_at(list: &[u32], len: usize, at: usize, x: u32) -> bool
-    requires { ⌜ Rising (take len (now list)) × (len ≤ length (now list)) × (at ≡ below x (take len (now list))) ⌝ }
-    ensures { λ r. ⌜ r ≡ mem x (take len (now (list .entry))) ⌝ }
-{
-    if at < len { list[at] == x } else { false }
 }
 
 // There are too many.
@@ -80,15 +58,14 @@ fn settle(
     candidates: &mut [u32; MAX_NUMBERS],
 ) -> Settled
     requires { ⌜ Settleable settled x count h (now echoed) (now candidates) ⌝ }
-    ensures { λ r. ⌜ ((v : ℕ → ℕ) (c : List ℕ) → v x ≡ count → Settles v h c x (now (echoed .entry)) (now (candidates .entry)) settled
-        → SettlesOn v h c x (now (echoed .exit)) (now (candidates .exit)) r) ⌝ }
+    ensures { λ r. ⌜ SettlesNext settled x count h echoed candidates r ⌝ }
 {
     if 3 * count < h {
         return settled;
     }
     let len = settled.candidates;
     let place = place_from(candidates, len, settled.place, x);
-    if stands_at(candidates, len, place, x) {
+    if has_at(candidates, len, place, x) {
         return settled;
     }
     let e = settled.echoed;
@@ -129,10 +106,8 @@ fn settle_all(
     echoed: &mut [u32; MAX_NUMBERS],
     candidates: &mut [u32; MAX_NUMBERS],
 ) -> Settled
-    requires { ⌜ Walkable (now own) (now tray) (now starts) (now counts) (now sent) len h known (now echoed) (now candidates)
-        × Roomy (now tree) (now nexts) (now at) ⌝ }
-    ensures { λ r. ⌜ Sorts (weighed (now (own .entry)) (now (tray .entry)) (now (starts .entry)) (now (counts .entry)) (now (sent .entry)) len) h
-        (take known (now (candidates .entry))) (now (echoed .exit)) (now (candidates .exit)) r ⌝ }
+    requires { ⌜ Walkable own tray starts counts sent len h known echoed candidates × Roomy (now tree) (now nexts) (now at) ⌝ }
+    ensures { λ r. ⌜ SortsAll own tray starts counts sent len h known echoed candidates r ⌝ }
 {
     line_up(own, tray, starts, counts, len, tree, nexts, at);
     let mut settled = Settled {
@@ -168,9 +143,8 @@ fn walk(
     echoed: &mut [u32; MAX_NUMBERS],
     candidates: &mut [u32; MAX_NUMBERS],
 ) -> Settled
-    requires { ⌜ Walkable (now own) (now tray) (now starts) (now counts) (now sent) len h known (now echoed) (now candidates) ⌝ }
-    ensures { λ r. ⌜ Sorts (weighed (now (own .entry)) (now (tray .entry)) (now (starts .entry)) (now (counts .entry)) (now (sent .entry)) len) h
-        (take known (now (candidates .entry))) (now (echoed .exit)) (now (candidates .exit)) r ⌝ }
+    requires { ⌜ Walkable own tray starts counts sent len h known echoed candidates ⌝ }
+    ensures { λ r. ⌜ SortsAll own tray starts counts sent len h known echoed candidates r ⌝ }
 {
     let mut tree = [0usize; 2 * MAX_LISTS];
     let mut nexts = [0usize; MAX_LISTS];
@@ -202,9 +176,8 @@ fn tally(
     echoed: &mut [u32; MAX_NUMBERS],
     candidates: &mut [u32; MAX_NUMBERS],
 ) -> Settled
-    requires { ⌜ Ready (stateOf fields (now heard) (now candidates) (now own)) (now tray) (now firsts) × (now echoed ≡ (stored []) .at) ⌝ }
-    ensures { λ r. ⌜ Tallies (stateOf fields (now (heard .entry)) (now (candidates .entry)) (now (own .entry))) (now (tray .entry))
-        (now (echoed .exit)) (now (candidates .exit)) r ⌝ }
+    requires { ⌜ Ready (stateGiven fields heard candidates own) (now tray) (now firsts) × (now echoed ≡ (stored []) .at) ⌝ }
+    ensures { λ r. ⌜ Tallies (stateBefore fields heard candidates own) (before tray) (after echoed) (after candidates) r ⌝ }
 {
     let mut starts = [0usize; MAX_LISTS];
     let mut counts = [0usize; MAX_LISTS];
@@ -252,9 +225,8 @@ pub(crate) fn grow(
     tray: &[u8],
     firsts: &[usize; MAX_NUMBERS],
 ) -> Lists
-    requires { ⌜ Ready (stateOf fields (now heard) (now candidates) (now echoes)) (now tray) (now firsts) ⌝ }
-    ensures { λ r. ⌜ GrowsLists (stateOf fields (now (heard .entry)) (now (candidates .entry)) (now (echoes .entry))) (now (tray .entry)) r
-        (now (candidates .exit)) (now (echoes .exit)) ⌝ }
+    requires { ⌜ Ready (stateGiven fields heard candidates echoes) (now tray) (now firsts) ⌝ }
+    ensures { λ r. ⌜ GrowsLists (stateBefore fields heard candidates echoes) (before tray) r (after candidates) (after echoes) ⌝ }
 {
     let mut echoed = [0u32; MAX_NUMBERS];
     let mut joined = *candidates;

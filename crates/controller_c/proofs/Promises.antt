@@ -2,7 +2,7 @@
 --     parted             an answer that meets the controller's promise meets it in parts
 --     made-sound         the state of an answer that is not refused is the one promised, so it is sound where that is
 --     promise-handed     an answer that meets the controller's promise, handed over, meets the host's
---     promise-refused    a refusal under 1 stores nothing
+--     image-refused    a refusal under 1 stores nothing
 use Prim.Native.Nat.{ℕ}
 use mathlib.Core.Bool.{Bool, true, false, cond}
 use mathlib.Core.List.{List}
@@ -10,7 +10,7 @@ use mathlib.Core.Path.{_≡_, refl, sym, ap, _∙_}
 use lib.Dec.{eqb}
 use Rattle.controller.specs.Calls.{Promise}
 use Rattle.controller.specs.Fields.{stateOf, answerOf}
-use Rattle.controller.specs.State.{View, image, sound}
+use Rattle.controller.specs.State.{View, storedState, sound}
 use Rattle.controller.specs.declared.state.Answer.{Answer}
 use Rattle.controller.specs.declared.state.Fields.{Fields}
 use Rattle.controller.specs.declared.state.State.{State}
@@ -22,16 +22,16 @@ module _ (k : ℕ) (v : View) (s : State) (before : List ℕ) (a : Answer) (afte
       → Promise k v s before (answerOf (record { refusal = a .refusal; fields = f; length = a .length }) heard candidates echoes) after
   parted f heard candidates echoes e = record { number = p .number; state = e ∙ p .state; written = p .written; output = p .output }
 
-  pub made-sound : (k ≡ 0 → sound (image v) ≡ true) → a .refusal ≡ 0 → sound (a .state) ≡ true
+  pub made-sound : (k ≡ 0 → sound (storedState v) ≡ true) → a .refusal ≡ 0 → sound (a .state) ≡ true
   made-sound f h =
       let e : k ≡ 0 = sym (p .number) ∙ h in
       ap sound (p .state ∙ rw e) ∙ f e
 
   -- only a state that was made is laid out
-  laid-out : (b : List ℕ) → cond (eqb (a .refusal) 0) (laidOut (a .state)) b ≡ cond (eqb k 0) (laidOut (image v)) b
+  laid-out : (b : List ℕ) → cond (eqb (a .refusal) 0) (laidOut (a .state)) b ≡ cond (eqb k 0) (laidOut (storedState v)) b
   laid-out b = rw (p .number) (pick (eqb k 0) (p .state))
     where
-      pick : (t : Bool) → a .state ≡ cond t (image v) s → cond t (laidOut (a .state)) b ≡ cond t (laidOut (image v)) b
+      pick : (t : Bool) → a .state ≡ cond t (storedState v) s → cond t (laidOut (a .state)) b ≡ cond t (laidOut (storedState v)) b
       pick true e = ap laidOut e
       pick false e = refl
 
@@ -44,5 +44,5 @@ module _ (k : ℕ) (v : View) (s : State) (before : List ℕ) (a : Answer) (afte
         written = rw e (h .written ∙ p .written);
       }
 
-pub promise-refused : (n : ℕ) (v : View) (b before : List ℕ) (r l : ℕ) → n ≡ 1 → (r ≡ 1) × (l ≡ 0) → ImagePromise n v b before r b before l
-promise-refused n v b before r l e h = record { number = h .0 ∙ sym e; image = rw e; output = rw e; written = rw e (h .1) }
+pub image-refused : (n : ℕ) (v : View) (b before : List ℕ) (r l : ℕ) → n ≡ 1 → (r ≡ 1) × (l ≡ 0) → ImagePromise n v b before r b before l
+image-refused n v b before r l e h = record { number = h .0 ∙ sym e; image = rw e; output = rw e; written = rw e (h .1) }

@@ -1,18 +1,15 @@
 -- Runs of stores, as `lib.Seq.sets` has them.
---     sets-join      two that follow each other are one; join-at, where the second's place is written otherwise
+--     join-at        two that follow each other are one
 --     sets-front     one at the front of zeros leaves the rest of them
 --     sets-whole     one as long as the list is all that is left of it
 use Prim.Native.Nat.{ℕ, zero, suc, _+_, _-_, _≤_}
-use mathlib.Core.List.{List, [], _∷_, _++_, append-nil}
+use mathlib.Core.List.{List, [], _++_, append-nil}
 use mathlib.Core.Path.{_≡_, _∙_}
-use native.Mathlib.Nat.{zero-add, add-zero, add-suc, suc-add, sub-zero}
+use native.Mathlib.Nat.{zero-add, sub-zero}
 use native.Mathlib.Omega.{arith}
-use lib.ListN.{length, set, drop, replicate, length-replicate, drop-of-length-le}
+use lib.ListN.{length, drop, replicate, length-replicate, drop-of-length-le}
 use lib.Seq.{sets, sets-eq}
-
-pub sets-join : (l : List ℕ) (i : ℕ) (vs ws : List ℕ) → sets (sets l i vs) (i + length vs) ws ≡ sets l i (vs ++ ws)
-sets-join l i [] ws = rw add-zero
-sets-join l i (v ∷ vs) ws = rw (add-suc, ← suc-add i (length vs)) (sets-join (set l i v) (suc i) vs ws)
+use Rattle.wire.specs.Laws.Stores.{sets-join}
 
 pub join-at : (l : List ℕ) (i k : ℕ) (vs ws : List ℕ) → k ≡ i + length vs → sets (sets l i vs) k ws ≡ sets l i (vs ++ ws)
 join-at l i k vs ws e = rw e (sets-join l i vs ws)

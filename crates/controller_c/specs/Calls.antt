@@ -14,7 +14,7 @@ use mathlib.Core.Path.{_≡_}
 use lib.Dec.{eqb}
 use lib.ListN.{length, drop}
 use Rattle.wire.specs.Tray.{entries}
-use Rattle.controller.specs.State.{View, view, image, startView, sound}
+use Rattle.controller.specs.State.{View, view, storedState, startView, sound}
 use Rattle.controller.specs.Rules.{next}
 use Rattle.controller.specs.Refusals.{startRefusal, trayRefusal}
 use Rattle.controller.specs.Calls.{sentBytes}
@@ -31,7 +31,7 @@ trayImageRefusal b t n = cond (soundImage b) (trayRefusal (takenApart b) t n) 1
 
 pub record ImagePromise (refusal : ℕ) (made : View) (imageBefore outBefore : List ℕ) (r : ℕ) (imageAfter outAfter : List ℕ) (lengthAfter : ℕ) : Type 0 where
   pub number : r ≡ refusal
-  pub image : imageAfter ≡ cond (eqb refusal 0) (laidOut (image made)) imageBefore
+  pub image : imageAfter ≡ cond (eqb refusal 0) (laidOut (storedState made)) imageBefore
   pub output : outAfter ≡ cond (eqb refusal 0) (sentBytes made ++ drop (length (sentBytes made)) outBefore) outBefore
   pub written : lengthAfter ≡ cond (eqb refusal 0) (length (sentBytes made)) 0
 

@@ -4,6 +4,8 @@
 --     laidOut s                 the bytes of the state s
 --     listAt b at               the list that stands in b from at on
 --     takenApart b              the state in the bytes b
+--     withLists s b             the bytes b with the lists of the state s in their places
+--     noPlaces                  the 64 places of an empty list
 --     zeros l                   each number of l is 0
 --     shaped b                  the bytes are as many as an image has, and the reserved ones are 0
 --     soundImage b              so they are, and the state in them is sound
@@ -12,6 +14,7 @@ use mathlib.Core.Bool.{Bool, true, _&&_}
 use mathlib.Core.List.{List, [], _∷_, _++_}
 use lib.Dec.{eqb}
 use lib.ListN.{length, getD, drop, replicate}
+use lib.Seq.{sets}
 use Rattle.wire.specs.Limits.{maxNumbers}
 use Rattle.wire.specs.Words.{wordAt, wordBytes, wordsAt, wordsBytes}
 use Rattle.wire.specs.declared.frame.Numbers.{Numbers}
@@ -29,8 +32,8 @@ ownAt = 0
 abbrev pub roundAt : ℕ
 roundAt = 4
 
-abbrev pub bitAt : ℕ
-bitAt = 8
+abbrev pub ownBitAt : ℕ
+ownBitAt = 8
 
 abbrev pub saidAt : ℕ
 saidAt = 9
@@ -84,7 +87,13 @@ zerosFrom at = replicate (imageBytes - at) 0
 unfoldable pub laidOut : State → List ℕ
 laidOut s = headBytes s ++ (listBytes (s .heard) ++ (listBytes (s .candidates) ++ (listBytes (s .echoes) ++ zerosFrom reservedAt)))
 
+abbrev pub withLists : State → List ℕ → List ℕ
+withLists s b = sets (sets (sets b heardAt (listBytes (s .heard))) candidatesAt (listBytes (s .candidates))) echoesAt (listBytes (s .echoes))
+
 -- ---- from an image to the state in it
+
+abbrev pub noPlaces : List ℕ
+noPlaces = replicate maxNumbers 0
 
 -- the 64 places of a list
 unfoldable pub placesAt : List ℕ → ℕ → List ℕ
@@ -98,7 +107,7 @@ takenApart b =
     record {
       own = wordAt b ownAt;
       round = wordAt b roundAt;
-      bit = getD b bitAt 0;
+      bit = getD b ownBitAt 0;
       said = getD b saidAt 0;
       strong = getD b strongAt 0;
       king = wordAt b kingAt;

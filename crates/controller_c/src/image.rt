@@ -5,12 +5,13 @@ ghost use mathlib.Core.Path.{_≡_};
 ghost use Prim.Native.Nat.{_+_, _-_, _*_, _≤_};
 ghost use lib.ListN.{length, take, replicate};
 ghost use lib.Seq.{sets, slice};
+ghost use Rattle.wire.specs.Lent.{before, after};
 ghost use Rattle.wire.specs.Limits.{maxNumbers, numberWidth};
 ghost use Rattle.wire.specs.Words.{wordsAt, wordsBytes};
-ghost use Rattle.controller.specs.Fields.{stateOf};
+ghost use Rattle.controller.specs.Fields.{stateGiven, stateOf, stateBefore};
 ghost use Rattle.controller.specs.State.{sound, soundList};
-ghost use Rattle.controller_c.specs.Image.{imageBytes, heardAt, candidatesAt, echoesAt, reservedAt, listWidth, headBytes, listBytes, laidOut, listAt, takenApart, zeros, shaped, soundImage};
-use crate::layout::BIT_AT;
+ghost use Rattle.controller_c.specs.Image.{withLists, noPlaces, imageBytes, heardAt, reservedAt, listWidth, headBytes};
+ghost use Rattle.controller_c.specs.Image.{listBytes, laidOut, listAt, takenApart, zeros, shaped, soundImage};
 use crate::layout::CANDIDATES_AT;
 use crate::layout::COUNT_BYTES;
 use crate::layout::DECISION_AT;
@@ -19,6 +20,7 @@ use crate::layout::HEARD_AT;
 use crate::layout::IMAGE_BYTES;
 use crate::layout::KING_AT;
 use crate::layout::OWN_AT;
+use crate::layout::OWN_BIT_AT;
 use crate::layout::RESERVED_AT;
 use crate::layout::ROUND_AT;
 use crate::layout::SAID_AT;
@@ -33,7 +35,7 @@ use wire::limits::NUMBER_WIDTH;
 // Whether the bytes from `from` to `to` are 0. Every byte is looked at, so that the loop has no way out to wait for.
 fn all_zero(image: &[u8], from: usize, to: usize) -> bool
     requires { ⌜ (from ≤ to) × (to ≤ length (now image)) ⌝ }
-    ensures { λ r. ⌜ r ≡ zeros (slice from to (now (image .entry))) ⌝ }
+    ensures { λ r. ⌜ r ≡ zeros (slice from to (before image)) ⌝ }
 {
     let mut zero = true;
     let mut i = from;
@@ -49,7 +51,7 @@ fn all_zero(image: &[u8], from: usize, to: usize) -> bool
 // Reads the first `count` places of a list.
 fn take_places(image: &[u8], from: usize, count: usize, at: &mut [u32; MAX_NUMBERS])
     requires { ⌜ (count ≤ maxNumbers) × (from + numberWidth * count ≤ length (now image)) ⌝ }
-    ensures { λ r. ⌜ now (at .exit) ≡ sets (now (at .entry)) 0 (wordsAt (now (image .entry)) from count) ⌝ }
+    ensures { λ r. ⌜ after at ≡ sets (before at) 0 (wordsAt (before image) from count) ⌝ }
 {
     let mut i = 0;
     while i < count {
@@ -60,8 +62,8 @@ fn take_places(image: &[u8], from: usize, count: usize, at: &mut [u32; MAX_NUMBE
 
 // Reads a list into places that are 0, and returns its length. Where the unused places are 0, as they are in a sound image, only the others are read.
 fn take_list(image: &[u8], from: usize, at: &mut [u32; MAX_NUMBERS]) -> usize
-    requires { ⌜ (from + listWidth ≤ length (now image)) × (now at ≡ replicate maxNumbers 0) ⌝ }
-    ensures { λ r. ⌜ record { len = r; at = now (at .exit) } ≡ listAt (now (image .entry)) from ⌝ }
+    requires { ⌜ (from + listWidth ≤ length (now image)) × (now at ≡ noPlaces) ⌝ }
+    ensures { λ r. ⌜ record { len = r; at = after at } ≡ listAt (before image) from ⌝ }
 {
     let len = word(image, from) as usize;
     let first = from + COUNT_BYTES;
@@ -86,8 +88,8 @@ pub(crate) fn take_apart(
     candidates: &mut [u32; MAX_NUMBERS],
     echoes: &mut [u32; MAX_NUMBERS],
 ) -> Fields
-    requires { ⌜ (length (now image) ≡ imageBytes) × (now heard ≡ replicate maxNumbers 0) × (now candidates ≡ replicate maxNumbers 0) × (now echoes ≡ replicate maxNumbers 0) ⌝ }
-    ensures { λ r. ⌜ stateOf r (now (heard .exit)) (now (candidates .exit)) (now (echoes .exit)) ≡ takenApart (now (image .entry)) ⌝ }
+    requires { ⌜ (length (now image) ≡ imageBytes) × (now heard ≡ noPlaces) × (now candidates ≡ noPlaces) × (now echoes ≡ noPlaces) ⌝ }
+    ensures { λ r. ⌜ stateOf r (after heard) (after candidates) (after echoes) ≡ takenApart (before image) ⌝ }
 {
     let heard_len = take_list(image, HEARD_AT, heard);
     let candidates_len = take_list(image, CANDIDATES_AT, candidates);
@@ -95,7 +97,7 @@ pub(crate) fn take_apart(
     Fields {
         own: word(image, OWN_AT),
         round: word(image, ROUND_AT),
-        bit: image[BIT_AT],
+        bit: image[OWN_BIT_AT],
         said: image[SAID_AT],
         strong: image[STRONG_AT],
         king: word(image, KING_AT),
@@ -108,17 +110,13 @@ pub(crate) fn take_apart(
 
 // What is left to test is the state.
 pub(crate) fn is_shaped(image: &[u8]) -> bool
-    ensures { λ r. ⌜ r ≡ shaped (now (image .entry)) ⌝ }
+    ensures { λ r. ⌜ r ≡ shaped (before image) ⌝ }
 {
-    if image.len() == IMAGE_BYTES {
-        all_zero(image, RESERVED_AT, IMAGE_BYTES)
-    } else {
-        false
-    }
+    image.len() == IMAGE_BYTES && all_zero(image, RESERVED_AT, IMAGE_BYTES)
 }
 
 pub(crate) fn is_sound_image(image: &[u8]) -> bool
-    ensures { λ r. ⌜ r ≡ soundImage (now (image .entry)) ⌝ }
+    ensures { λ r. ⌜ r ≡ soundImage (before image) ⌝ }
 {
     if is_shaped(image) {
         let mut heard = [0u32; MAX_NUMBERS];
@@ -135,11 +133,11 @@ pub(crate) fn is_sound_image(image: &[u8]) -> bool
 
 fn put_head(image: &mut [u8], fields: Fields)
     requires { ⌜ heardAt ≤ length (now image) ⌝ }
-    ensures { λ r. ⌜ now (image .exit) ≡ sets (now (image .entry)) 0 (headBytes (stateOf fields [] [] [])) ⌝ }
+    ensures { λ r. ⌜ after image ≡ sets (before image) 0 (headBytes (stateOf fields [] [] [])) ⌝ }
 {
     put_word(image, OWN_AT, fields.own);
     put_word(image, ROUND_AT, fields.round);
-    image[BIT_AT] = fields.bit;
+    image[OWN_BIT_AT] = fields.bit;
     image[SAID_AT] = fields.said;
     image[STRONG_AT] = fields.strong;
     put_word(image, KING_AT, fields.king);
@@ -149,7 +147,7 @@ fn put_head(image: &mut [u8], fields: Fields)
 // Writes the first `len` places of a list.
 fn put_places(image: &mut [u8], from: usize, at: &[u32; MAX_NUMBERS], len: usize)
     requires { ⌜ (len ≤ maxNumbers) × (length (now at) ≡ maxNumbers) × (from + numberWidth * len ≤ length (now image)) ⌝ }
-    ensures { λ r. ⌜ now (image .exit) ≡ sets (now (image .entry)) from (wordsBytes (take len (now (at .entry)))) ⌝ }
+    ensures { λ r. ⌜ after image ≡ sets (before image) from (wordsBytes (take len (before at))) ⌝ }
 {
     let mut i = 0;
     while i < len {
@@ -161,7 +159,7 @@ fn put_places(image: &mut [u8], from: usize, at: &[u32; MAX_NUMBERS], len: usize
 // Sets the bytes from `from` to `to` to 0.
 fn clear(image: &mut [u8], from: usize, to: usize)
     requires { ⌜ (from ≤ to) × (to ≤ length (now image)) ⌝ }
-    ensures { λ r. ⌜ now (image .exit) ≡ sets (now (image .entry)) from (replicate (to - from) 0) ⌝ }
+    ensures { λ r. ⌜ after image ≡ sets (before image) from (replicate (to - from) 0) ⌝ }
 {
     let mut i = from;
     while i < to {
@@ -173,7 +171,7 @@ fn clear(image: &mut [u8], from: usize, to: usize)
 // Writes a list in its stored form, whose unused places are 0.
 fn put_list(image: &mut [u8], from: usize, at: &[u32; MAX_NUMBERS], len: usize)
     requires { ⌜ (from + listWidth ≤ length (now image)) × (soundList (record { len = len; at = now at }) ≡ true) ⌝ }
-    ensures { λ r. ⌜ now (image .exit) ≡ sets (now (image .entry)) from (listBytes (record { len = len; at = now (at .entry) })) ⌝ }
+    ensures { λ r. ⌜ after image ≡ sets (before image) from (listBytes (record { len = len; at = before at })) ⌝ }
 {
     let first = from + COUNT_BYTES;
     put_word(image, from, len as u32);
@@ -192,8 +190,8 @@ fn put_lists(
     candidates: &[u32; MAX_NUMBERS],
     echoes: &[u32; MAX_NUMBERS],
 )
-    requires { ⌜ (sound (stateOf fields (now heard) (now candidates) (now echoes)) ≡ true) × (reservedAt ≤ length (now image)) ⌝ }
-    ensures { λ r. ⌜ now (image .exit) ≡ sets (sets (sets (now (image .entry)) heardAt (listBytes (record { len = fields .heard; at = now (heard .entry) }))) candidatesAt (listBytes (record { len = fields .candidates; at = now (candidates .entry) }))) echoesAt (listBytes (record { len = fields .echoes; at = now (echoes .entry) })) ⌝ }
+    requires { ⌜ (sound (stateGiven fields heard candidates echoes) ≡ true) × (reservedAt ≤ length (now image)) ⌝ }
+    ensures { λ r. ⌜ after image ≡ withLists (stateBefore fields heard candidates echoes) (before image) ⌝ }
 {
     put_list(image, HEARD_AT, heard, fields.heard);
     put_list(image, CANDIDATES_AT, candidates, fields.candidates);
@@ -208,8 +206,8 @@ pub(crate) fn lay_out(
     echoes: &[u32; MAX_NUMBERS],
     image: &mut [u8],
 )
-    requires { ⌜ (sound (stateOf fields (now heard) (now candidates) (now echoes)) ≡ true) × (length (now image) ≡ imageBytes) ⌝ }
-    ensures { λ r. ⌜ now (image .exit) ≡ laidOut (stateOf fields (now (heard .entry)) (now (candidates .entry)) (now (echoes .entry))) ⌝ }
+    requires { ⌜ (sound (stateGiven fields heard candidates echoes) ≡ true) × (length (now image) ≡ imageBytes) ⌝ }
+    ensures { λ r. ⌜ after image ≡ laidOut (stateBefore fields heard candidates echoes) ⌝ }
 {
     put_head(image, fields);
     put_lists(image, fields, heard, candidates, echoes);

@@ -5,7 +5,7 @@ pub(crate) const OWN_AT: usize = 0;
 
 pub(crate) const ROUND_AT: usize = 4;
 
-pub(crate) const BIT_AT: usize = 8;
+pub(crate) const OWN_BIT_AT: usize = 8;
 
 pub(crate) const SAID_AT: usize = 9;
 

@@ -3,6 +3,7 @@ ghost use mathlib.Core.Bool.{cond};
 ghost use mathlib.Core.Path.{_≡_};
 ghost use Prim.Native.Nat.{_≤_};
 ghost use lib.ListN.{length};
+ghost use Rattle.wire.specs.Lent.{before, after};
 ghost use Rattle.wire.specs.Words.{wordAt};
 ghost use Rattle.controller.specs.Fields.{answerOf};
 ghost use Rattle.controller_c.specs.Calls.{StartImagePromise, TrayImagePromise, fieldOf, HandsOver, HandedOver};
@@ -39,7 +40,7 @@ fn hand_over(
     written: &mut usize,
 ) -> u8
     requires { ⌜ HandsOver (answerOf worked (now heard) (now candidates) (now echoes)) (length (now image)) ⌝ }
-    ensures { λ r. ⌜ HandedOver (answerOf worked (now (heard .entry)) (now (candidates .entry)) (now (echoes .entry))) (now (image .entry)) r (now (image .exit)) (now (written .exit)) ⌝ }
+    ensures { λ r. ⌜ HandedOver (answerOf worked (before heard) (before candidates) (before echoes)) (before image) r (after image) (after written) ⌝ }
 {
     *written = worked.length;
     let refusal = worked.refusal;
@@ -52,7 +53,7 @@ fn hand_over(
 
 // Refuses what is no image, under 1.
 fn no_image(written: &mut usize) -> u8
-    ensures { λ r. ⌜ (r ≡ 1) × (now (written .exit) ≡ 0) ⌝ }
+    ensures { λ r. ⌜ (r ≡ 1) × (after written ≡ 0) ⌝ }
 {
     *written = 0;
     1
@@ -67,7 +68,7 @@ pub extern "C" fn controller_start(
     out: &mut [u8],
     written: &mut usize,
 ) -> u8
-    ensures { λ r. ⌜ StartImagePromise number bit (now (image .entry)) (now (out .entry)) r (now (image .exit)) (now (out .exit)) (now (written .exit)) ⌝ }
+    ensures { λ r. ⌜ StartImagePromise number bit (before image) (before out) r (after image) (after out) (after written) ⌝ }
 {
     if image.len() == IMAGE_BYTES {
         let answer = start(number, bit, out);
@@ -101,7 +102,7 @@ pub extern "C" fn controller_tray(
     out: &mut [u8],
     written: &mut usize,
 ) -> u8
-    ensures { λ r. ⌜ TrayImagePromise (now (image .entry)) (now (tray .entry)) (now (out .entry)) r (now (image .exit)) (now (out .exit)) (now (written .exit)) ⌝ }
+    ensures { λ r. ⌜ TrayImagePromise (before image) (before tray) (before out) r (after image) (after out) (after written) ⌝ }
 {
     if is_shaped(image) {
         let mut heard = [0u32; MAX_NUMBERS];
@@ -118,7 +119,7 @@ pub extern "C" fn controller_tray(
 // The decision of the image's state, 2 for none; 255 for an image that is not sound.
 #[no_mangle]
 pub extern "C" fn controller_decision(image: &[u8]) -> u8
-    ensures { λ r. ⌜ r ≡ cond (soundImage (now (image .entry))) ((takenApart (now (image .entry))) .decision) 255 ⌝ }
+    ensures { λ r. ⌜ r ≡ cond (soundImage (before image)) ((takenApart (before image)) .decision) 255 ⌝ }
 {
     if is_sound_image(image) {
         image[DECISION_AT]
@@ -130,7 +131,7 @@ pub extern "C" fn controller_decision(image: &[u8]) -> u8
 // The number in the four bytes at `at`; 0 for an image that is not sound.
 fn field(image: &[u8], at: usize) -> u32
     requires { ⌜ at ≤ echoesAt ⌝ }
-    ensures { λ r. ⌜ r ≡ fieldOf (now (image .entry)) (wordAt (now (image .entry)) at) ⌝ }
+    ensures { λ r. ⌜ r ≡ fieldOf (before image) (wordAt (before image) at) ⌝ }
 {
     if is_sound_image(image) {
         word(image, at)
@@ -142,7 +143,7 @@ fn field(image: &[u8], at: usize) -> u32
 // The last round sent.
 #[no_mangle]
 pub extern "C" fn controller_round(image: &[u8]) -> u32
-    ensures { λ r. ⌜ r ≡ fieldOf (now (image .entry)) ((takenApart (now (image .entry))) .round) ⌝ }
+    ensures { λ r. ⌜ r ≡ fieldOf (before image) ((takenApart (before image)) .round) ⌝ }
 {
     field(image, ROUND_AT)
 }
@@ -150,7 +151,7 @@ pub extern "C" fn controller_round(image: &[u8]) -> u32
 // The king, 0 for none.
 #[no_mangle]
 pub extern "C" fn controller_king(image: &[u8]) -> u32
-    ensures { λ r. ⌜ r ≡ fieldOf (now (image .entry)) ((takenApart (now (image .entry))) .king) ⌝ }
+    ensures { λ r. ⌜ r ≡ fieldOf (before image) ((takenApart (before image)) .king) ⌝ }
 {
     field(image, KING_AT)
 }
@@ -158,7 +159,7 @@ pub extern "C" fn controller_king(image: &[u8]) -> u32
 // How many numbers are heard.
 #[no_mangle]
 pub extern "C" fn controller_heard(image: &[u8]) -> u32
-    ensures { λ r. ⌜ r ≡ fieldOf (now (image .entry)) ((takenApart (now (image .entry))) .heard .len) ⌝ }
+    ensures { λ r. ⌜ r ≡ fieldOf (before image) ((takenApart (before image)) .heard .len) ⌝ }
 {
     field(image, HEARD_AT)
 }
@@ -166,7 +167,7 @@ pub extern "C" fn controller_heard(image: &[u8]) -> u32
 // How many numbers are candidates.
 #[no_mangle]
 pub extern "C" fn controller_candidates(image: &[u8]) -> u32
-    ensures { λ r. ⌜ r ≡ fieldOf (now (image .entry)) ((takenApart (now (image .entry))) .candidates .len) ⌝ }
+    ensures { λ r. ⌜ r ≡ fieldOf (before image) ((takenApart (before image)) .candidates .len) ⌝ }
 {
     field(image, CANDIDATES_AT)
 }
@@ -174,7 +175,7 @@ pub extern "C" fn controller_candidates(image: &[u8]) -> u32
 // How many numbers are echoed.
 #[no_mangle]
 pub extern "C" fn controller_echoes(image: &[u8]) -> u32
-    ensures { λ r. ⌜ r ≡ fieldOf (now (image .entry)) ((takenApart (now (image .entry))) .echoes .len) ⌝ }
+    ensures { λ r. ⌜ r ≡ fieldOf (before image) ((takenApart (before image)) .echoes .len) ⌝ }
 {
     field(image, ECHOES_AT)
 }

@@ -3,12 +3,13 @@ ghost use mathlib.Core.Path.{_≡_};
 ghost use Prim.Native.Nat.{_+_, _≤_, _<_};
 ghost use lib.ListN.{length, getD};
 ghost use lib.Seq.{sets};
+ghost use Rattle.wire.specs.Lent.{before, after};
 ghost use Rattle.wire.specs.Words.{wordAt, wordBytes};
 
 // The byte at `at`, as a number.
 fn byte(s: &[u8], at: usize) -> u32
     requires { ⌜ at < length (now s) ⌝ }
-    ensures { λ r. ⌜ (r ≡ getD (now (s .entry)) at 0) × (r < 256) ⌝ }
+    ensures { λ r. ⌜ (r ≡ getD (before s) at 0) × (r < 256) ⌝ }
 {
     s[at] as u32
 }
@@ -16,7 +17,7 @@ fn byte(s: &[u8], at: usize) -> u32
 // The four bytes at `at`, as a number.
 pub(crate) fn word(s: &[u8], at: usize) -> u32
     requires { ⌜ at + 4 ≤ length (now s) ⌝ }
-    ensures { λ r. ⌜ r ≡ wordAt (now (s .entry)) at ⌝ }
+    ensures { λ r. ⌜ r ≡ wordAt (before s) at ⌝ }
 {
     byte(s, at) * 16777216 + byte(s, at + 1) * 65536 + byte(s, at + 2) * 256 + byte(s, at + 3)
 }
@@ -24,7 +25,7 @@ pub(crate) fn word(s: &[u8], at: usize) -> u32
 // Stores a number in the four bytes at `at`.
 pub(crate) fn put_word(s: &mut [u8], at: usize, x: u32)
     requires { ⌜ at + 4 ≤ length (now s) ⌝ }
-    ensures { λ r. ⌜ now (s .exit) ≡ sets (now (s .entry)) at (wordBytes x) ⌝ }
+    ensures { λ r. ⌜ after s ≡ sets (before s) at (wordBytes x) ⌝ }
 {
     s[at] = (x / 256 / 256 / 256) as u8;
     s[at + 1] = (x / 256 / 256 % 256) as u8;

@@ -120,5 +120,7 @@ pub record Run : Type 0 where
   -- "with 3f < n"
   pub few : 3 * length faulty < length (everyone correct faulty)
   -- "For each round t up to 2 + 3n for which a proper controller sent a frame, it works one tray of round t, and that tray keeps the guarantee"
+  -- "Past these rounds its trays may be anything. Refused trays may be of any bytes, with any output buffer, in any number and at any place": so no
+  -- field speaks of other trays
   pub works : (c : Controller) → Member c correct → (t : ℕ) → t ≤ 2 + 3 * length (everyone correct faulty) → (b : List ℕ) → Sent c t b
       → (k : TrayCall) × Member k (c .trays) × Accepted k × Delivers correct faulty (c .number) t (k .tray)

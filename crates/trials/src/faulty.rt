@@ -1,18 +1,21 @@
-// What the faulty controller 3 sends, to each receiver and in each round, under each lie.
+// What the faulty controller 3 sends, to each receiver and in each round, under each fault.
 ghost use Prim.Native.Nat.{_≤_, _<_};
 use crate::packing::Packet;
 use wire::frame::Frame;
 use wire::frame::kind_of;
 use wire::frame::said_by;
-use wire::frame::write_frame;
+use wire::limits::MAX_FRAME;
+use wire::limits::ROSTER;
+use wire::limits::TURN;
+use wire::write::write_frame;
 
-pub(crate) enum Lie {
+pub(crate) enum Fault {
     // Init to 5 and 7, a roster of 3 alone to 9, then nothing: document 01's last trial.
     Trial,
     // Nothing.
     Silence,
     // Another value and another proposal to each receiver.
-    Faces,
+    Equivocation,
     // Another opinion to each receiver.
     King,
     // Bytes that are no frame.
@@ -23,7 +26,7 @@ fn nothing() -> Packet {
     Packet {
         sender: 0,
         len: 0,
-        bytes: [0; 264],
+        bytes: [0; MAX_FRAME],
     }
 }
 
@@ -32,7 +35,7 @@ fn frame(round: u32, bit: u8, count: usize) -> Packet
     requires { ⌜ count ≤ 4 ⌝ }
 {
     let numbers = [3, 5, 7, 9];
-    let mut bytes = [0; 264];
+    let mut bytes = [0; MAX_FRAME];
     let said = said_by(kind_of(round), bit);
     let written = write_frame(Frame { round, said }, &numbers[0..count], &mut bytes);
     if written.refusal == 0 {
@@ -77,30 +80,30 @@ fn place_of(to: u32) -> u32
 }
 
 // 0, 1 or 2 (none): another for each receiver in a phase, and for each receiver another in the next phase.
-fn face(round: u32, to: u32) -> u8 {
+fn turned_bit(round: u32, to: u32) -> u8 {
     let turned = round / 3 + place_of(to);
     (turned % 3) as u8
 }
 
 // A value cannot be none: the writer refuses it, and that receiver gets no frame. As king, 3 has no opinion here.
-fn two_faced(round: u32, to: u32) -> Packet {
+fn equivocating(round: u32, to: u32) -> Packet {
     let kind = kind_of(round);
-    if kind <= 2 {
+    if kind <= ROSTER {
         joining(round)
-    } else if kind == 5 {
+    } else if kind == TURN {
         frame(round, 2, 0)
     } else {
-        frame(round, face(round, to), 0)
+        frame(round, turned_bit(round, to), 0)
     }
 }
 
 // No value and no proposal, so that nobody in phase 0 is strong and all look to the king.
 fn by_king(round: u32, to: u32) -> Packet {
     let kind = kind_of(round);
-    if kind <= 2 {
+    if kind <= ROSTER {
         joining(round)
-    } else if kind == 5 {
-        frame(round, face(round, to), 0)
+    } else if kind == TURN {
+        frame(round, turned_bit(round, to), 0)
     } else {
         nothing()
     }
@@ -110,16 +113,16 @@ fn void() -> Packet {
     Packet {
         sender: 3,
         len: 8,
-        bytes: [255; 264],
+        bytes: [255; MAX_FRAME],
     }
 }
 
-pub(crate) fn told(lie: Lie, round: u32, to: u32) -> Packet {
-    match lie {
-        Lie::Trial => by_trial(round, to),
-        Lie::Silence => nothing(),
-        Lie::Faces => two_faced(round, to),
-        Lie::King => by_king(round, to),
-        Lie::Void => void(),
+pub(crate) fn sent_to(fault: Fault, round: u32, to: u32) -> Packet {
+    match fault {
+        Fault::Trial => by_trial(round, to),
+        Fault::Silence => nothing(),
+        Fault::Equivocation => equivocating(round, to),
+        Fault::King => by_king(round, to),
+        Fault::Void => void(),
     }
 }

@@ -1,4 +1,4 @@
-// The trial of document 01 that has no star, and the same network under other lies: 3 is faulty, 5, 7 and 9 are correct. They run the real
+// The trial of document 01 that has no star, and the same network under other faults: 3 is faulty, 5, 7 and 9 are correct. They run the real
 // calls, and their frames are carried from call to call. What is printed comes from the states that the calls return.
 ghost use Prim.Native.Nat.{_≤_};
 
@@ -10,15 +10,17 @@ use controller::calls::start;
 use controller::calls::tray;
 use controller::state::Answer;
 use controller::state::State;
-use faulty::Lie;
-use faulty::told;
+use faulty::Fault;
+use faulty::sent_to;
 use packing::Packet;
+use packing::TRAY_ROOM;
 use packing::pack;
 use report::print;
 use report::print_change;
 use report::print_input;
 use report::print_outcome;
 use report::print_refusal;
+use wire::limits::MAX_FRAME;
 
 // A correct controller between two rounds: the state that its last call returned, and the frame that this call wrote.
 struct Node {
@@ -34,7 +36,7 @@ struct Network {
 }
 
 fn start_one(number: u32, bit: u8) -> Node {
-    let mut bytes = [0; 264];
+    let mut bytes = [0; MAX_FRAME];
     let answer = start(number, bit, &mut bytes);
     let refusal = answer.refusal;
     let state = answer.state;
@@ -61,19 +63,19 @@ fn start_all() -> Network {
 }
 
 // Apart from what surrounds it: the bounds of a part of a parameter need no proof file.
-fn hand_over(was: State, bytes: [u8; 824], len: usize, out: &mut [u8]) -> Answer
+fn hand_over(was: State, bytes: [u8; TRAY_ROOM], len: usize, out: &mut [u8]) -> Answer
     requires { ⌜ len ≤ 824 ⌝ }
 {
     tray(was, &bytes[0..len], out)
 }
 
 // One controller's call: its tray of a round holds what the two others sent, and what 3 sends to it.
-fn step_one(node: Node, other: Packet, another: Packet, round: u32, lie: Lie) -> Node {
+fn step_one(node: Node, other: Packet, another: Packet, round: u32, fault: Fault) -> Node {
     let was = node.state;
     let number = was.own;
-    let given = pack(round, other, another, told(lie, round, number));
+    let given = pack(round, other, another, sent_to(fault, round, number));
     let given_bytes = given.bytes;
-    let mut bytes = [0; 264];
+    let mut bytes = [0; MAX_FRAME];
     let answer = hand_over(was, given_bytes, given.len, &mut bytes);
     let refusal = answer.refusal;
     let state = answer.state;
@@ -91,7 +93,7 @@ fn step_one(node: Node, other: Packet, another: Packet, round: u32, lie: Lie) ->
 }
 
 // All three work their trays of a round, each made of the frames that were sent in it.
-fn step_all(was: Network, round: u32, lie: Lie) -> Network {
+fn step_all(was: Network, round: u32, fault: Fault) -> Network {
     let five = was.five;
     let seven = was.seven;
     let nine = was.nine;
@@ -99,18 +101,18 @@ fn step_all(was: Network, round: u32, lie: Lie) -> Network {
     let by_seven = seven.sent;
     let by_nine = nine.sent;
     Network {
-        five: step_one(five, by_seven, by_nine, round, lie),
-        seven: step_one(seven, by_five, by_nine, round, lie),
-        nine: step_one(nine, by_five, by_seven, round, lie),
+        five: step_one(five, by_seven, by_nine, round, fault),
+        seven: step_one(seven, by_five, by_nine, round, fault),
+        nine: step_one(nine, by_five, by_seven, round, fault),
     }
 }
 
 // A network of four has decided by round 15, document 01's 3 + 3n. A decision that changed before then would be printed again.
-fn play(lie: Lie) {
+fn play(fault: Fault) {
     let mut now = start_all();
     let mut round = 1;
     while round < 15 {
-        now = step_all(now, round, lie);
+        now = step_all(now, round, fault);
         round += 1;
     }
     let five = now.five;
@@ -123,13 +125,13 @@ fn main() {
     print(
         b"last trial of document 01: 3 sends init to 5 and 7, then to 9 a roster that lists just 3, then nothing\n",
     );
-    play(Lie::Trial);
+    play(Fault::Trial);
     print(b"\nsilence: 3 sends nothing\n");
-    play(Lie::Silence);
+    play(Fault::Silence);
     print(b"\ntwo faces: 3 joins, then tells each another value and another proposal\n");
-    play(Lie::Faces);
+    play(Fault::Equivocation);
     print(b"\nlying king: 3 joins, then tells each another opinion\n");
-    play(Lie::King);
+    play(Fault::King);
     print(b"\nvoid frames: 3 sends bytes that are no frame, in every round\n");
-    play(Lie::Void);
+    play(Fault::Void);
 }

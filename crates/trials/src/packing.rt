@@ -1,17 +1,22 @@
 // Frames on their way, and the tray that brings them, laid out as document 01, "Trays", has it.
 ghost use Prim.Native.Nat.{_+_, _≤_, _<_};
+ghost use Rattle.wire.specs.Limits.{maxFrame};
+use wire::limits::MAX_FRAME;
+
+// Room for a tray of three frames: 8 + 3 * 8 + 3 * 264 bytes. A contract cannot name it, so there it stands as a number.
+pub(crate) const TRAY_ROOM: usize = 824;
 
 // A frame on its way: the `len` first bytes. Sender 0, which is no controller's number, stands for no frame.
 pub(crate) struct Packet {
     pub sender: u32,
     pub len: usize,
-    pub bytes: [u8; 264],
+    pub bytes: [u8; MAX_FRAME],
 }
 
-// A tray under way: the directory has its place, and the frames put so far end at `len`. Three frames fit: 8 + 3 * 8 + 3 * 264 bytes.
+// A tray under way: the directory has its place, and the frames put so far end at `len`.
 pub(crate) struct Tray {
     pub len: usize,
-    pub bytes: [u8; 824],
+    pub bytes: [u8; TRAY_ROOM],
 }
 
 pub(crate) fn least(a: usize, b: usize) -> usize
@@ -25,22 +30,22 @@ fn low_byte(x: u32) -> u8 {
 }
 
 // Stores the two low bytes of a number.
-fn put_half(bytes: &mut [u8; 824], at: usize, x: u32)
+fn put_half(bytes: &mut [u8; TRAY_ROOM], at: usize, x: u32)
     requires { ⌜ at + 2 ≤ 824 ⌝ }
 {
     bytes[at] = low_byte(x / 256);
     bytes[at + 1] = low_byte(x);
 }
 
-fn put_word(bytes: &mut [u8; 824], at: usize, x: u32)
+fn put_word(bytes: &mut [u8; TRAY_ROOM], at: usize, x: u32)
     requires { ⌜ at + 4 ≤ 824 ⌝ }
 {
     put_half(bytes, at, x / 65536);
     put_half(bytes, at + 2, x);
 }
 
-fn put_bytes(bytes: &mut [u8; 824], at: usize, frame: &[u8; 264], len: usize)
-    requires { ⌜ (len ≤ 264) × (at + len ≤ 824) ⌝ }
+fn put_bytes(bytes: &mut [u8; TRAY_ROOM], at: usize, frame: &[u8; MAX_FRAME], len: usize)
+    requires { ⌜ (len ≤ maxFrame) × (at + len ≤ 824) ⌝ }
 {
     let mut i = 0;
     while i < len {
@@ -54,7 +59,7 @@ fn empty_tray(round: u32, entries: u32) -> Tray
     requires { ⌜ entries ≤ 3 ⌝ }
     ensures { λ r. ⌜ r .len ≤ 32 ⌝ }
 {
-    let mut bytes = [0; 824];
+    let mut bytes = [0; TRAY_ROOM];
     put_word(&mut bytes, 0, round);
     put_half(&mut bytes, 4, entries);
     Tray {
@@ -63,13 +68,13 @@ fn empty_tray(round: u32, entries: u32) -> Tray
     }
 }
 
-// The tray with one frame more, as the entry at `place`. No frame is longer than the 264 bytes that the cut leaves.
+// The tray with one frame more, as the entry at `place`. No frame is longer than what the cut leaves.
 fn with_packet(tray: Tray, place: usize, packet: Packet) -> Tray
-    requires { ⌜ (place < 3) × (tray .len + 264 ≤ 824) ⌝ }
-    ensures { λ r. ⌜ r .len ≤ tray .len + 264 ⌝ }
+    requires { ⌜ (place < 3) × (tray .len + maxFrame ≤ 824) ⌝ }
+    ensures { λ r. ⌜ r .len ≤ tray .len + maxFrame ⌝ }
 {
     let offset = tray.len;
-    let len = least(packet.len, 264);
+    let len = least(packet.len, MAX_FRAME);
     let frame = packet.bytes;
     let mut bytes = tray.bytes;
     let entry = 8 + 8 * place;

@@ -4,6 +4,8 @@ use controller::state::State;
 use libc::STDOUT_FILENO;
 use wire::frame::Numbers;
 use wire::frame::kind_of;
+use wire::limits::NO_BIT;
+use wire::limits::VALUE;
 
 pub(crate) fn print(text: &[u8]) {
     io::write_all(STDOUT_FILENO, text);
@@ -76,8 +78,8 @@ fn print_decision(state: State) {
 pub(crate) fn print_change(was: State, now: State) {
     if now.decision != was.decision {
         print_decision(now);
-    } else if now.decision == 2 {
-        if kind_of(now.round) == 3 {
+    } else if now.decision == NO_BIT {
+        if kind_of(now.round) == VALUE {
             print_phase(now);
         }
     }
@@ -95,7 +97,7 @@ fn print_common(a: State, b: State, c: State) {
 }
 
 pub(crate) fn print_outcome(a: State, b: State, c: State) {
-    if a.decision == 2 {
+    if a.decision == NO_BIT {
         print(b"no decision\n");
     } else {
         print_common(a, b, c);

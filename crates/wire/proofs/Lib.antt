@@ -1,4 +1,3 @@
 -- What several proofs of the crate share.
 pub mod Rest
 pub mod Tests
-pub mod Stores

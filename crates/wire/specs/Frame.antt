@@ -6,8 +6,9 @@
 --     Content                   what a frame holds: its round, what it says, its numbers
 --     readRefusal s t           0, or 11 where the bytes s are void for round t
 --     content s t               the content of the bytes s, read in round t, if they have one
---     readStored, readView      the reader's answer for a content or none, and the content that an answer holds
---     bitIn o                   the bit of a content; 3 for none
+--     countOf s                 how many numbers the bytes s list; 0 where they have no header
+--     readAs o                  the reader's answer for a content or none; numberRead r, the paper's number of each answer
+--     bitRead r, bitIn o        the bit that an answer or a content says; 3 for void and none
 --     writeRefusal c n          0, or the refusal for content c and an output buffer of n bytes: 10, then 3
 --     frameBytes c              the bytes of content c
 -- Bytes of a list are numbers below 256.
@@ -20,7 +21,7 @@ use lib.Dec.{leb, eqb}
 use lib.ListN.{length, getD, drop}
 use Rattle.wire.specs.Limits.{frameHeader, numberWidth, kindAt, bitAt, countAt, maxNumbers, maxFrame, lastRound}
 use Rattle.wire.specs.Words.{halfAt, wordAt, halfBytes, wordBytes, wordsAt, wordsBytes}
-use Rattle.wire.specs.Numbers.{rising, stored, listed}
+use Rattle.wire.specs.Numbers.{rising}
 use Rattle.wire.specs.Refusal.{firstFailed}
 use Rattle.wire.specs.declared.frame.Choice.{Choice}
 use Rattle.wire.specs.declared.frame.Choice.the-variants.{Bit, None}
@@ -28,8 +29,6 @@ use Rattle.wire.specs.declared.frame.Said.{Said}
 use Rattle.wire.specs.declared.frame.Said.the-variants.{Init, Roster, Value, Proposal, Opinion}
 use Rattle.wire.specs.declared.frame.Read.{Read}
 use Rattle.wire.specs.declared.frame.Read.the-variants.{Valid, Void}
-use Rattle.wire.specs.declared.frame.Numbers.{Numbers}
-use Rattle.wire.specs.declared.frame.FrameRead.{FrameRead}
 use Rattle.wire.specs.declared.frame.Written.{Written}
 
 -- ---- kinds and bits
@@ -86,13 +85,14 @@ pub record Content : Type 0 where
 -- ---- the reader
 
 abbrev pub countOf : List ℕ → ℕ
-countOf s = halfAt s countAt
+countOf s = cond (leb frameHeader (length s)) (halfAt s countAt) 0
 
 abbrev pub numbersOf : List ℕ → List ℕ
 numbersOf s = wordsAt s frameHeader (countOf s)
 
+-- "Length is exactly 8 + 4 × count"
 unfoldable pub lengthFits : List ℕ → Bool
-lengthFits s = leb frameHeader (length s) && eqb (length s) (frameHeader + numberWidth * countOf s)
+lengthFits s = eqb (length s) (frameHeader + numberWidth * countOf s)
 
 unfoldable pub roundFits : ℕ → Bool
 roundFits t = leb 1 t && leb t lastRound
@@ -113,22 +113,10 @@ contentOf s t = record { round = t; said = saidBy (kindOf t) (getD s bitAt 0); n
 unfoldable pub content : List ℕ → ℕ → Option Content
 content s t = cond (eqb (readRefusal s t) 0) (some (contentOf s t)) none
 
--- the answer of `read_frame`: a void answer has an empty list beside it
-abbrev pub readStored : Option Content → FrameRead
-readStored none = record { read = Void; numbers = stored [] }
-readStored (some c) = record { read = Valid (record { round = c .round; said = c .said }); numbers = stored (c .numbers) }
-
--- byte 5 of the frame with a content; 3, which no frame has there, for none
-abbrev pub bitIn : Option Content → ℕ
-bitIn none = 3
-bitIn (some c) = bitSaid (c .said)
-
-abbrev pub viewOf : Read → Numbers → Option Content
-viewOf (Valid f) n = some (record { round = f .round; said = f .said; numbers = listed n })
-viewOf Void n = none
-
-abbrev pub readView : FrameRead → Option Content
-readView r = viewOf (r .read) (r .numbers)
+-- the answer of `read_frame`; the list stays in the bytes
+abbrev pub readAs : Option Content → Read
+readAs none = Void
+readAs (some c) = Valid (record { round = c .round; said = c .said })
 
 -- the paper's number of each case of `Read`, 0 for none
 abbrev pub numberRead : Read → ℕ
@@ -136,9 +124,18 @@ numberRead (Valid f) = 0
 numberRead Void = 11
 
 -- what `read_frame` promises of its answer r
-pub record FrameReads (s : List ℕ) (t : ℕ) (r : FrameRead) : Type 0 where
-  pub number : numberRead (r .read) ≡ readRefusal s t
-  pub answer : r ≡ readStored (content s t)
+pub record FrameReads (s : List ℕ) (t : ℕ) (r : Read) : Type 0 where
+  pub number : numberRead r ≡ readRefusal s t
+  pub answer : r ≡ readAs (content s t)
+
+-- the bit that an answer says; 3, which no frame says, for void
+abbrev pub bitRead : Read → ℕ
+bitRead (Valid f) = bitSaid (f .said)
+bitRead Void = 3
+
+-- the bit that a content says, or 3
+abbrev pub bitIn : Option Content → ℕ
+bitIn o = bitRead (readAs o)
 
 -- ---- the writer
 

@@ -1,5 +1,7 @@
 -- Laws about the definitions, for the proofs of this crate and of the crates above it.
+pub mod Damage
 pub mod Frame
 pub mod Numbers
+pub mod Stores
 pub mod Tray
 pub mod Words

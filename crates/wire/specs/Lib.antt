@@ -1,4 +1,5 @@
 -- What the crate's contracts cite. Each file opens with the section of document 01 that it renders; the laws stand apart, below `Laws`.
+pub mod Lent
 pub mod Limits
 pub mod Words
 pub mod Numbers

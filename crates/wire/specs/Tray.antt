@@ -4,15 +4,15 @@
 --     entryCount s            how many entries the tray says it has
 --     inDirectory s i         entry i is counted and lies whole in the tray's bytes
 --     sender s i, place s i   the sender of entry i, and where its frame lies; 0 and nothing outside the directory
---     firstPlace s x          where the frame of x's first entry lies
 --     part s o n              the n bytes from o on; no bytes where they run past the end
 --     bytesAt s f             the bytes at a place that was found, if one was
 --     entries s               the tray as a list of entries: who sent, and the bytes
 --     firstBytes x es         the bytes of x's first entry: "Only a sender's first entry counts"
+--     overwritten s i new     the tray s with the bytes new in the place of entry i's frame
 -- Offsets and lengths are added as numbers without a bound, so no sum wraps.
 use Prim.Native.Nat.{ℕ, zero, suc, _+_, _*_}
 use mathlib.Core.Bool.{Bool, cond, _&&_}
-use mathlib.Core.List.{List, [], _∷_}
+use mathlib.Core.List.{List, [], _∷_, _++_}
 use mathlib.Core.Option.{Option, some, none}
 use lib.Dec.{leb, ltb, eqb}
 use lib.ListN.{length, take, drop}
@@ -50,14 +50,6 @@ sender s i = cond (inDirectory s i) (wordAt s (entryAt i)) 0
 unfoldable pub place : List ℕ → ℕ → Found
 place s i = cond (inDirectory s i) (At (offsetOf s i) (lengthOf s i)) Nothing
 
--- the n entries from entry i on, searched for sender x
-abbrev pub placeFrom : List ℕ → ℕ → ℕ → ℕ → Found
-placeFrom s x zero i = Nothing
-placeFrom s x (suc n) i = cond (eqb (sender s i) x) (place s i) (placeFrom s x n (i + 1))
-
-unfoldable pub firstPlace : List ℕ → ℕ → Found
-firstPlace s x = placeFrom s x (entryCount s) 0
-
 -- ---- well packed
 
 -- the n entries from entry i on: the first frame begins at `at`, each next where the one before ends, and the last ends at the tray's end
@@ -93,3 +85,9 @@ entries s = entriesFrom s (entryCount s) 0
 abbrev pub firstBytes : ℕ → List Entry → Option (List ℕ)
 firstBytes x [] = none
 firstBytes x (e ∷ es) = cond (eqb (e .sender) x) (some (e .bytes)) (firstBytes x es)
+
+-- ---- a damaged tray
+
+-- what stands before entry i's frame, other bytes for the frame, and what stands behind it
+unfoldable pub overwritten : List ℕ → ℕ → List ℕ → List ℕ
+overwritten s i new = take (offsetOf s i) s ++ new ++ drop (offsetOf s i + lengthOf s i) s

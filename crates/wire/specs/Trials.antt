@@ -1,6 +1,6 @@
 -- Document 01, "Trials": the starred ones on frames, as rows of a table that a crate above can take into its own.
 --     FrameTrial      bytes, the round in which they are read, and their content, or none where they are void
---     Holds           what a row claims: that `content`, which the reader's promise cites, is just that
+--     FrameHolds           what a row claims: that `content`, which the reader's promise cites, is just that
 --     frameTrials     the rows
 --     All P l         each member of l has P
 use Prim.Native.Nat.{ℕ}
@@ -15,8 +15,8 @@ pub record FrameTrial : Type 0 where
   pub round : ℕ
   pub expected : Option Content
 
-abbrev pub Holds : FrameTrial → Type 0
-Holds t = content (t .bytes) (t .round) ≡ t .expected
+abbrev pub FrameHolds : FrameTrial → Type 0
+FrameHolds t = content (t .bytes) (t .round) ≡ t .expected
 
 abbrev pub All : {A : Type 0} → (A → Type 0) → List A → Type 0
 All P [] = Unit {0}

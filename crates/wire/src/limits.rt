@@ -11,6 +11,20 @@ pub const BIT_AT: usize = 5;
 
 pub const COUNT_AT: usize = 6;
 
+// Frames: document 01's kinds.
+pub const INIT: u8 = 1;
+
+pub const ROSTER: u8 = 2;
+
+pub const VALUE: u8 = 3;
+
+pub const PROPOSE: u8 = 4;
+
+pub const TURN: u8 = 5;
+
+// Document 01's 2: no bit. Init and roster have it, and a proposal, an opinion or a decision that there is not.
+pub const NO_BIT: u8 = 2;
+
 // Frames: the most numbers, the longest frame, the last round.
 pub const MAX_NUMBERS: usize = 64;
 

@@ -4,10 +4,8 @@ ghost use mathlib.Core.Path.{_≡_};
 ghost use Prim.Native.Nat.{_+_, _≤_};
 ghost use lib.Dec.{leb};
 ghost use lib.ListN.{length};
-ghost use Rattle.wire.specs.Frame.{FrameReads};
-ghost use Rattle.wire.specs.Tray.{wellFormed, roundOf, entryCount, entryAt, inDirectory, sender, place, firstPlace, chained, part};
-use crate::frame::FrameRead;
-use crate::frame::read_frame;
+ghost use Rattle.wire.specs.Lent.{before};
+ghost use Rattle.wire.specs.Tray.{wellFormed, roundOf, entryCount, entryAt, inDirectory, sender, place, chained, part};
 use crate::limits::ENTRIES_AT;
 use crate::limits::ENTRY_WIDTH;
 use crate::limits::LENGTH_AT;
@@ -27,7 +25,7 @@ pub enum Found {
 
 // The round in which the tray's frames were sent; 0 for a tray without a header.
 pub fn tray_round(tray: &[u8]) -> u32
-    ensures { λ r. ⌜ r ≡ roundOf (now (tray .entry)) ⌝ }
+    ensures { λ r. ⌜ r ≡ roundOf (before tray) ⌝ }
 {
     if TRAY_HEADER <= tray.len() {
         word(tray, 0)
@@ -38,7 +36,7 @@ pub fn tray_round(tray: &[u8]) -> u32
 
 // How many entries the tray says it has; 0 for a tray without a header.
 pub fn entry_count(tray: &[u8]) -> usize
-    ensures { λ r. ⌜ r ≡ entryCount (now (tray .entry)) ⌝ }
+    ensures { λ r. ⌜ r ≡ entryCount (before tray) ⌝ }
 {
     if TRAY_HEADER <= tray.len() {
         half(tray, ENTRIES_AT)
@@ -49,18 +47,14 @@ pub fn entry_count(tray: &[u8]) -> usize
 
 // Whether entry `i` is counted and lies whole in the tray's bytes.
 fn in_directory(tray: &[u8], i: usize) -> bool
-    ensures { λ r. ⌜ r ≡ inDirectory (now (tray .entry)) i ⌝ }
+    ensures { λ r. ⌜ r ≡ inDirectory (before tray) i ⌝ }
 {
-    if i < entry_count(tray) {
-        TRAY_HEADER + ENTRY_WIDTH * (i + 1) <= tray.len()
-    } else {
-        false
-    }
+    i < entry_count(tray) && TRAY_HEADER + ENTRY_WIDTH * (i + 1) <= tray.len()
 }
 
 // The sender of entry `i`; 0 outside the directory.
 pub fn entry_sender(tray: &[u8], i: usize) -> u32
-    ensures { λ r. ⌜ r ≡ sender (now (tray .entry)) i ⌝ }
+    ensures { λ r. ⌜ r ≡ sender (before tray) i ⌝ }
 {
     if in_directory(tray, i) {
         word(tray, TRAY_HEADER + ENTRY_WIDTH * i)
@@ -71,7 +65,7 @@ pub fn entry_sender(tray: &[u8], i: usize) -> u32
 
 // Where the frame of entry `i` lies.
 pub fn entry_place(tray: &[u8], i: usize) -> Found
-    ensures { λ r. ⌜ r ≡ place (now (tray .entry)) i ⌝ }
+    ensures { λ r. ⌜ r ≡ place (before tray) i ⌝ }
 {
     if in_directory(tray, i) {
         let entry = TRAY_HEADER + ENTRY_WIDTH * i;
@@ -81,25 +75,10 @@ pub fn entry_place(tray: &[u8], i: usize) -> Found
     }
 }
 
-// Where the frame of a sender's first entry lies: only that one counts.
-pub fn first_place(tray: &[u8], number: u32) -> Found
-    ensures { λ r. ⌜ r ≡ firstPlace (now (tray .entry)) number ⌝ }
-{
-    let count = entry_count(tray);
-    let mut i = 0;
-    while i < count {
-        if entry_sender(tray, i) == number {
-            return entry_place(tray, i);
-        }
-        i += 1;
-    }
-    Found::Nothing
-}
-
 // Whether the frames follow each other without a gap from the directory's end to the tray's end.
 fn frames_follow(tray: &[u8], count: usize) -> bool
     requires { ⌜ entryAt count ≤ length (now tray) ⌝ }
-    ensures { λ r. ⌜ r ≡ chained (now (tray .entry)) count 0 (entryAt count) ⌝ }
+    ensures { λ r. ⌜ r ≡ chained (before tray) count 0 (entryAt count) ⌝ }
 {
     let mut end = TRAY_HEADER + ENTRY_WIDTH * count;
     let mut i = 0;
@@ -116,52 +95,24 @@ fn frames_follow(tray: &[u8], count: usize) -> bool
 
 // Document 01's "well packed", for any bytes.
 pub fn well_formed(tray: &[u8]) -> bool
-    ensures { λ r. ⌜ r ≡ wellFormed (now (tray .entry)) ⌝ }
+    ensures { λ r. ⌜ r ≡ wellFormed (before tray) ⌝ }
 {
-    if tray.len() < TRAY_HEADER {
-        return false;
-    }
-    if MAX_TRAY < tray.len() {
-        return false;
-    }
     let count = entry_count(tray);
-    if MAX_ENTRIES < count {
-        return false;
-    }
-    if half(tray, ZERO_AT) != 0 {
-        return false;
-    }
-    if tray.len() < TRAY_HEADER + ENTRY_WIDTH * count {
-        return false;
-    }
-    frames_follow(tray, count)
+    (TRAY_HEADER <= tray.len()) & (tray.len() <= MAX_TRAY) & (count <= MAX_ENTRIES)
+        && (half(tray, ZERO_AT) == 0) & (TRAY_HEADER + ENTRY_WIDTH * count <= tray.len())
+        && frames_follow(tray, count)
 }
 
 // Whether the `len` bytes from `offset` on lie in the tray. No sum is made that could wrap.
 fn lies_in(tray: &[u8], offset: usize, len: usize) -> bool
-    ensures { λ r. ⌜ r ≡ leb (offset + len) (length (now (tray .entry))) ⌝ }
+    ensures { λ r. ⌜ r ≡ leb (offset + len) (length (before tray)) ⌝ }
 {
-    if offset <= tray.len() {
-        len <= tray.len() - offset
-    } else {
-        false
-    }
-}
-
-// The frame in the `len` bytes from `offset` on, read in a round. A part that runs past the tray's end is void.
-pub fn read_part(tray: &[u8], offset: usize, len: usize, round: u32) -> FrameRead
-    ensures { λ r. ⌜ FrameReads (part (now (tray .entry)) offset len) round r ⌝ }
-{
-    if lies_in(tray, offset, len) {
-        read_frame(&tray[offset..offset + len], round)
-    } else {
-        read_frame(&tray[0..0], round)
-    }
+    offset <= tray.len() && len <= tray.len() - offset
 }
 
 // The `len` bytes from `offset` on; no bytes where they run past the tray's end.
 pub fn part_of<'a>(tray: &'a [u8], offset: usize, len: usize) -> &'a [u8]
-    ensures { λ r. ⌜ now r ≡ part (now (tray .entry)) offset len ⌝ }
+    ensures { λ r. ⌜ now r ≡ part (before tray) offset len ⌝ }
 {
     if lies_in(tray, offset, len) {
         &tray[offset..offset + len]

@@ -7,10 +7,10 @@ use checks::random::Random;
 
 pub const SIZES: [usize; 3] = [4, 16, 64];
 
-/// A name and how to make the input for a line of n.
+/// A name and how to make the input for a network of n.
 pub type Make = (&'static str, fn(usize) -> Input);
 
-pub const ALL: [Make; 9] = [
+pub const ALL: [Make; 11] = [
     ("value tray", value_tray),
     ("turn tray, equal lists", equal_lists),
     ("turn tray, a third of the lists random", random_third),
@@ -21,7 +21,22 @@ pub const ALL: [Make; 9] = [
     ),
     ("turn tray, n * n different numbers", different_lists),
     ("turn tray, n * n random numbers", random_lists),
+    (
+        "turn tray, different numbers and a common one",
+        common_number,
+    ),
+    (
+        "turn tray, different numbers, new senders, 256 entries",
+        new_senders,
+    ),
     ("value tray, 256 entries", repeated_entries),
+    ("whole run to decision", whole_run),
+];
+
+/// A tray of many bytes for little work, and a whole run: for the comparison of the
+/// two ways to go over the bytes.
+pub const PASSED: [Make; 2] = [
+    ("turn tray, equal lists", equal_lists),
     ("whole run to decision", whole_run),
 ];
 
@@ -80,24 +95,24 @@ impl Input {
     }
 }
 
-/// The numbers of a line.
-fn line(size: usize) -> Vec<u32> {
+/// The numbers of a network.
+fn numbers(size: usize) -> Vec<u32> {
     (1..=size as u32).map(|i| 1_000_003 * i).collect()
 }
 
-/// The first one of a line, which has heard all.
+/// The first one of a network, which has heard all.
 fn state(size: usize, round: u32) -> Fields {
-    let line = line(size);
+    let all = numbers(size);
     Fields {
-        number: line[0],
+        number: all[0],
         round,
         bit: 1,
         said: 1,
         strong: 0,
-        king: line[1],
+        king: all[1],
         decision: 2,
-        heard: line.clone(),
-        candidates: line,
+        heard: all.clone(),
+        candidates: all,
         echoes: Vec::new(),
     }
 }
@@ -109,7 +124,7 @@ fn from_others(round: u32, frames: impl IntoIterator<Item = (u32, Vec<u8>)>) -> 
 }
 
 fn value_frames(size: usize) -> Vec<(u32, Vec<u8>)> {
-    let others = line(size).into_iter().skip(1).enumerate();
+    let others = numbers(size).into_iter().skip(1).enumerate();
     others
         .map(|(i, n)| (n, frame(3, (i % 2) as u8, &[])))
         .collect()
@@ -135,8 +150,8 @@ fn repeated_entries(size: usize) -> Input {
 fn equal_lists(size: usize) -> Input {
     let mut state = state(size, 5);
     state.candidates.clear();
-    state.echoes = line(size);
-    turn_tray(&state, |_| line(size))
+    state.echoes = numbers(size);
+    turn_tray(&state, |_| numbers(size))
 }
 
 /// The same, but no two neighbours send the same bytes, and the own list has its
@@ -144,26 +159,57 @@ fn equal_lists(size: usize) -> Input {
 fn equal_lists_apart(size: usize) -> Input {
     let mut state = state(size, 5);
     state.candidates.clear();
-    state.echoes = line(size);
+    state.echoes = numbers(size);
     state.echoes[size - 1] += 1;
     let others = state.heard.iter().enumerate().skip(1);
-    let frames = others.map(|(place, &n)| (n, frame(5, (place % 3) as u8, &line(size))));
+    let frames = others.map(|(place, &n)| (n, frame(5, (place % 3) as u8, &numbers(size))));
     Input {
         image: state.image(),
         trays: vec![from_others(5, frames)],
     }
 }
 
-/// Each lists n numbers of its own, spread over the same range, so none comes to
-/// a third and the tray is worked. The lists have 4,096 numbers for n = 64.
+/// The n numbers of the one at a place, spread over the same range for all places.
+fn own_numbers(size: usize, place: usize) -> Vec<u32> {
+    let numbers = (0..size).map(|i| 500 + 977 * (i * size + place) as u32);
+    numbers.collect()
+}
+
+/// Each lists n numbers of its own, so none comes to a third and the tray is
+/// accepted. The lists have 4,096 numbers for n = 64.
 fn different_lists(size: usize) -> Input {
-    let own_numbers = |place: usize| {
-        let numbers = (0..size).map(|i| 500 + 977 * (i * size + place) as u32);
-        numbers.collect::<Vec<u32>>()
+    let mut state = state(size, 5);
+    state.echoes = own_numbers(size, 0);
+    turn_tray(&state, |place| own_numbers(size, place))
+}
+
+/// The same, but the last number is the same for all: no list ends before the
+/// others, and the count of the last number reaches two thirds.
+fn common_number(size: usize) -> Input {
+    let list = |place: usize| {
+        let mut list = own_numbers(size, place);
+        list[size - 1] = u32::MAX;
+        list
     };
     let mut state = state(size, 5);
-    state.echoes = own_numbers(0);
-    turn_tray(&state, own_numbers)
+    state.candidates.clear();
+    state.echoes = list(0);
+    turn_tray(&state, list)
+}
+
+/// Different numbers from senders none of whom is heard yet, in falling order, with
+/// entries of length 0 behind them up to 256.
+fn new_senders(size: usize) -> Input {
+    let mut state = state(size, 5);
+    state.heard.truncate(1);
+    state.echoes = own_numbers(size, 0);
+    let others = || numbers(size).into_iter().enumerate().skip(1).rev();
+    let frames = others().map(|(place, n)| (n, frame(5, NONE, &own_numbers(size, place))));
+    let again = others().cycle().map(|(_, n)| (n, Vec::new()));
+    Input {
+        image: state.image(),
+        trays: vec![from_others(5, frames.chain(again).take(MAX_ENTRIES))],
+    }
 }
 
 /// Each lists n random numbers.
@@ -173,7 +219,7 @@ fn random_lists(size: usize) -> Input {
     turn_tray(&state, |place| random_list(size, place))
 }
 
-/// How many of a line may be faulty.
+/// How many of a network may be faulty.
 fn most_faulty(size: usize) -> usize {
     (size - 1) / 3
 }
@@ -198,7 +244,7 @@ fn random_shuffled(size: usize) -> Input {
 fn off_third(size: usize) -> Input {
     let faulty = |place| place >= size - most_faulty(size);
     let off = |place: usize| {
-        let mut list = line(size);
+        let mut list = numbers(size);
         list[place] += 1;
         list
     };
@@ -213,10 +259,10 @@ fn with_faulty(
 ) -> Input {
     let mut state = state(size, 5);
     state.candidates.clear();
-    state.echoes = line(size);
+    state.echoes = numbers(size);
     turn_tray(&state, |place| match faulty(place) {
         true => list(place),
-        false => line(size),
+        false => numbers(size),
     })
 }
 
@@ -231,7 +277,7 @@ fn random_list(size: usize, place: usize) -> Vec<u32> {
     numbers.into_iter().collect()
 }
 
-/// A turn tray; the list is that of the one at a place in the line.
+/// A turn tray; the list is that of the one at a place in the network.
 fn turn_tray(state: &Fields, list: impl Fn(usize) -> Vec<u32>) -> Input {
     let others = state.heard.iter().enumerate().skip(1);
     let frames = others.map(|(place, &n)| (n, frame(5, NONE, &list(place))));
@@ -241,15 +287,15 @@ fn turn_tray(state: &Fields, list: impl Fn(usize) -> Vec<u32>) -> Input {
     }
 }
 
-/// A line of proper ones only, to the round in which all decide. The trays are
+/// A network of correct ones only, to the round in which all decide. The trays are
 /// those of its first one, so that the time is the engine's and not the host's.
 fn whole_run(size: usize) -> Input {
-    let line = line(size);
-    let mut running: Vec<Lent> = line.iter().map(|_| Lent::new()).collect();
+    let all = numbers(size);
+    let mut running: Vec<Lent> = all.iter().map(|_| Lent::new()).collect();
     for (i, lent) in running.iter_mut().enumerate() {
         let bit = (i % 2) as u8;
         Engine::start(
-            line[i],
+            all[i],
             bit,
             &mut lent.image,
             &mut lent.out,
@@ -259,12 +305,12 @@ fn whole_run(size: usize) -> Input {
     let image = running[0].image.clone();
     let mut trays = Vec::new();
     for round in 1..3 + 3 * size as u32 {
-        let sent = line.iter().zip(&running);
+        let sent = all.iter().zip(&running);
         let sent: Vec<_> = sent
             .map(|(&n, l)| (n, l.out[..l.length].to_vec()))
             .collect();
         for (i, lent) in running.iter_mut().enumerate() {
-            let others = sent.iter().filter(|(n, _)| *n != line[i]);
+            let others = sent.iter().filter(|(n, _)| *n != all[i]);
             let tray = from_others(round, others.cloned());
             Engine::tray(&mut lent.image, &tray, &mut lent.out, &mut lent.length);
             if i == 0 {

@@ -1,11 +1,12 @@
-//! The benchmark: `cargo run --release -p bench` prints a table in Markdown.
+//! The benchmark: `cargo run --release -p bench` prints tables in Markdown.
 //!
 //! It times the compiled engine through its C calls, the reference through the
 //! same calls on the same image bytes, and, as a floor, one pass over the tray's
 //! bytes word by word. Each timed call starts from the same image: copying it in
 //! costs both the same. Batches of the three take turns, so that a noisy machine
-//! hits all of them, and the medians are printed. A second table compares the order
-//! of work that request A3 asks for with the one that it names.
+//! hits all of them, and the medians are printed. A second table has the pass beside
+//! a plain sum, and a third compares the order of work that request A3 asks for with
+//! the one that it names.
 
 #![forbid(unsafe_code)]
 
@@ -17,7 +18,7 @@ use std::hint::black_box;
 
 use inputs::{Input, SIZES};
 use look::Lists;
-use measure::{compare, measure, Times};
+use measure::{compare, measure, passes, Times};
 
 fn main() {
     println!("Time per call (for a whole run, per run of one controller) in ns.\n");
@@ -37,7 +38,29 @@ fn main() {
             print_row(name, size, &input, times, base);
         }
     }
+    print_passes();
     print_comparison();
+}
+
+/// The pass beside a plain sum of the same bytes.
+fn print_passes() {
+    println!("\nOver the tray's bytes, a word at a time and by a plain sum.\n");
+    println!("| input | n | bytes | pass | sum | engine / pass | engine / sum |");
+    println!("|---|--:|--:|--:|--:|--:|--:|");
+    for (name, make) in inputs::PASSED {
+        for size in SIZES {
+            let input = make(size);
+            let times = passes(&input);
+            println!(
+                "| {name} | {size} | {} | {:.0} | {:.0} | {:.1} | {:.1} |",
+                input.bytes(),
+                times.pass,
+                times.sum,
+                times.engine_to_pass,
+                times.engine_to_sum
+            );
+        }
+    }
 }
 
 /// The walk of a whole call against looking through each list for each number.

@@ -28,7 +28,7 @@ pub fn measure(input: &Input) -> Times {
     let [engine, reference, pass] = take_turns([
         &mut || u64::from(black_box(input).work::<Engine>(&mut first)),
         &mut || u64::from(black_box(input).work::<Reference>(&mut second)),
-        &mut || black_box(input).trays.iter().map(|tray| sum(tray)).sum(),
+        &mut || black_box(input).trays.iter().map(|tray| pass(tray)).sum(),
     ]);
     Times {
         engine_to_reference: median(ratios(&engine, &reference)),
@@ -36,6 +36,31 @@ pub fn measure(input: &Input) -> Times {
         engine: median(engine),
         reference: median(reference),
         pass: median(pass),
+    }
+}
+
+/// The engine's time against the two ways to go over the bytes.
+#[derive(Clone, Copy)]
+pub struct Passes {
+    pub pass: f64,
+    pub sum: f64,
+    pub engine_to_pass: f64,
+    pub engine_to_sum: f64,
+}
+
+pub fn passes(input: &Input) -> Passes {
+    let mut lent = Lent::new();
+    let over = |sum: fn(&[u8]) -> u64| black_box(input).trays.iter().map(|tray| sum(tray)).sum();
+    let [engine, pass, sum] = take_turns([
+        &mut || u64::from(black_box(input).work::<Engine>(&mut lent)),
+        &mut || over(pass),
+        &mut || over(plain_sum),
+    ]);
+    Passes {
+        engine_to_pass: median(ratios(&engine, &pass)),
+        engine_to_sum: median(ratios(&engine, &sum)),
+        pass: median(pass),
+        sum: median(sum),
     }
 }
 
@@ -69,12 +94,22 @@ fn ratios(times: &[f64], others: &[f64]) -> Vec<f64> {
 
 /// One pass over the bytes, one word at a time: `black_box` keeps the compiler from
 /// taking several words in one instruction.
-fn sum(bytes: &[u8]) -> u64 {
+fn pass(bytes: &[u8]) -> u64 {
+    sum_of(bytes, black_box)
+}
+
+/// The same sum as the compiler likes it, several words in one instruction.
+fn plain_sum(bytes: &[u8]) -> u64 {
+    sum_of(bytes, |word| word)
+}
+
+#[inline(always)]
+fn sum_of(bytes: &[u8], see: impl Fn(u64) -> u64) -> u64 {
     let mut words = bytes.chunks_exact(8);
     let mut sum: u64 = 0;
     for word in &mut words {
         let word = u64::from_ne_bytes(word.try_into().expect("8 bytes"));
-        sum = sum.wrapping_add(black_box(word));
+        sum = sum.wrapping_add(see(word));
     }
     let rest = words.remainder().iter().map(|&byte| u64::from(byte));
     sum.wrapping_add(rest.sum())

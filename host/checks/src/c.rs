@@ -11,13 +11,18 @@ pub fn root() -> PathBuf {
     PathBuf::from(env!("CARGO_MANIFEST_DIR")).join("../..")
 }
 
-/// Compiles a source file below the root, without a warning, into a folder, and
-/// runs the program.
-pub fn run(source: &str, folder: &str) -> Output {
-    let library = match env::var_os("CONTROLLER_LIB_DIR") {
+/// The archive that the tests are linked with.
+pub fn archive() -> PathBuf {
+    let folder = match env::var_os("CONTROLLER_LIB_DIR") {
         Some(dir) => PathBuf::from(dir),
         None => root().join("target/staticlib"),
     };
+    folder.join("libcontroller_c.a")
+}
+
+/// Compiles a source file below the root, without a warning, into a folder, and
+/// runs the program.
+pub fn run(source: &str, folder: &str) -> Output {
     let name = Path::new(source).file_stem().expect("a file's name");
     let program = Path::new(folder).join(name);
     let compiled = Command::new("cc")
@@ -25,7 +30,7 @@ pub fn run(source: &str, folder: &str) -> Output {
         .arg("-I")
         .arg(root().join("include"))
         .arg(root().join(source))
-        .arg(library.join("libcontroller_c.a"))
+        .arg(archive())
         .arg("-o")
         .arg(&program)
         .status()

@@ -9,8 +9,8 @@ use crate::{states, trays};
 /// How many trays a case hands to one state, one after the other.
 const WALK: usize = 4;
 
-/// How often each answer was given (0 for worked, else the refusal), and how often
-/// worked trays came to each edge of the rules.
+/// How often each answer was given (0 for accepted, else the refusal), and how often
+/// accepted trays came to each edge of the rules.
 #[derive(Clone, Default)]
 pub struct Histogram {
     pub start: [u64; 12],

@@ -1,4 +1,4 @@
-//! What a worked tray did, so that a test can tell whether its trays came to the
+//! What an accepted tray did, so that a test can tell whether its trays came to the
 //! edges of the rules.
 
 use crate::fields::Fields;

@@ -1,8 +1,10 @@
 //! What the tests of the compiled engine share.
 //!
 //! `tests/differential.rs` compares the engine with the reference call by call;
-//! `tests/lines.rs` runs whole lines of controllers with liars among them;
-//! `tests/programs.rs` compiles and runs the C programs.
+//! `tests/networks.rs` runs whole networks with faulty controllers among them;
+//! `tests/programs.rs` compiles and runs the C programs and looks into the archive;
+//! `tests/format.rs` holds the bytes of docs/FORMAT.md to be true;
+//! `tests/session.rs` runs the session printer.
 //!
 //! - [`c`]: C programs, compiled and run;
 //! - [`calls`]: the calls of both, behind one trait;
@@ -10,20 +12,24 @@
 //! - [`packing`]: frames and trays, packed by hand;
 //! - [`fields`]: the fields of a state's image, for looking and for building;
 //! - [`states`], [`trays`], [`voids`]: generators, sound, nearly sound and not;
+//! - [`hex`]: bytes written in hex;
+//! - [`page`]: tables and worked calls of the pages in docs/;
 //! - [`compare`]: one call on both, and the first difference;
-//! - [`edges`]: what a worked tray did;
-//! - [`line`], [`liar`]: a whole line, and what its liars send.
+//! - [`edges`]: what an accepted tray did;
+//! - [`network`], [`adversary`]: a whole network, and what its faulty ones send.
 
 #![forbid(unsafe_code)]
 
+pub mod adversary;
 pub mod c;
 pub mod calls;
 pub mod compare;
 pub mod edges;
 pub mod fields;
-pub mod liar;
-pub mod line;
+pub mod hex;
+pub mod network;
 pub mod packing;
+pub mod page;
 pub mod random;
 pub mod states;
 pub mod trays;

@@ -8,13 +8,13 @@ use crate::packing::{
 };
 use crate::random::Random;
 use crate::states::Sorted;
-use crate::voids::spoil;
+use crate::voids::damaged;
 
-/// A tray for a state, mostly one that is worked or refused late.
+/// A tray for a state, mostly one that is accepted or refused late.
 pub fn tray(random: &mut Random, pool: &[u32], state: &Fields) -> Vec<u8> {
     let senders = senders(random, pool, state);
     let mut entries = frames(random, pool, state, &senders);
-    spoil_some(random, &mut entries, state.round);
+    damage_some(random, &mut entries, state.round);
     if random.percent(20) {
         repeat_some(random, &mut entries, state.round);
     }
@@ -62,9 +62,9 @@ fn senders(random: &mut Random, pool: &[u32], state: &Fields) -> Vec<u32> {
         4 if random.percent(50) => room + random.below(2),
         _ => 0,
     };
-    let strangers = without(pool, &state.heard);
+    let unheard = without(pool, &state.heard);
     let mut senders = random.some(&known, count);
-    senders.extend(random.some(&strangers, new));
+    senders.extend(random.some(&unheard, new));
     senders.sort_unstable();
     senders
 }
@@ -203,11 +203,11 @@ fn spread(
 }
 
 /// Makes none, few or many of the frames void.
-fn spoil_some(random: &mut Random, entries: &mut [Entry], round: u32) {
+fn damage_some(random: &mut Random, entries: &mut [Entry], round: u32) {
     let chance = random.pick(&[0, 0, 0, 0, 5, 5, 20, 60]);
     for entry in entries {
         if random.percent(chance) {
-            entry.bytes = spoil(random, &entry.bytes, round);
+            entry.bytes = damaged(random, &entry.bytes, round);
         }
     }
 }
@@ -222,7 +222,7 @@ fn repeat_some(random: &mut Random, entries: &mut Vec<Entry>, round: u32) {
         let sender = random.pick(entries_senders(entries).as_slice());
         let mut bytes = entries[random.below(entries.len())].bytes.clone();
         if random.percent(30) && bytes.len() >= 8 {
-            bytes = spoil(random, &bytes, round);
+            bytes = damaged(random, &bytes, round);
         }
         let at = random.below(entries.len() + 1);
         entries.insert(at, Entry { sender, bytes });

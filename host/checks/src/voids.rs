@@ -4,7 +4,7 @@ use crate::packing::{frame, has_list, kind_of};
 use crate::random::Random;
 
 /// A frame that is void for its round (for a few lists, by luck, it is not).
-pub fn spoil(random: &mut Random, good: &[u8], round: u32) -> Vec<u8> {
+pub fn damaged(random: &mut Random, good: &[u8], round: u32) -> Vec<u8> {
     let mut bytes = good.to_vec();
     match random.below(13) {
         0 => bytes.clear(),
@@ -16,8 +16,8 @@ pub fn spoil(random: &mut Random, good: &[u8], round: u32) -> Vec<u8> {
         6 => bytes.push(0),
         7 => bytes.truncate(random.below(good.len())),
         8 => bytes.extend(u32::MAX.to_be_bytes()),
-        9 => spoil_order(random, &mut bytes),
-        10 => spoil_zero(&mut bytes),
+        9 => damage_order(random, &mut bytes),
+        10 => damage_first(&mut bytes),
         11 => bytes = too_long(random, round),
         _ => bytes = random.bytes(good.len()),
     }
@@ -25,7 +25,7 @@ pub fn spoil(random: &mut Random, good: &[u8], round: u32) -> Vec<u8> {
 }
 
 /// Swaps two neighbours in the list, or makes them equal.
-fn spoil_order(random: &mut Random, bytes: &mut [u8]) {
+fn damage_order(random: &mut Random, bytes: &mut [u8]) {
     let count = (bytes.len() - 8) / 4;
     if count >= 2 {
         let at = 8 + 4 * random.below(count - 1);
@@ -38,7 +38,7 @@ fn spoil_order(random: &mut Random, bytes: &mut [u8]) {
 }
 
 /// Puts 0 first in the list.
-fn spoil_zero(bytes: &mut [u8]) {
+fn damage_first(bytes: &mut [u8]) {
     if let Some(first) = bytes.get_mut(8..12) {
         first.fill(0);
     }

@@ -35,7 +35,7 @@ mod c {
     }
 }
 
-/// Starts a controller with its number and the bit it brings in.
+/// Starts a controller with its number and its input, a bit.
 pub fn start(number: u32, bit: u8, image: &mut [u8], out: &mut [u8], length: &mut usize) -> u8 {
     // SAFETY: the pointers and lengths are those of slices that overlap nowhere.
     unsafe {

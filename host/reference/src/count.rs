@@ -21,11 +21,10 @@ pub const MAX_LISTED: usize = MAX_NUMBERS * MAX_NUMBERS;
 
 /// Counts in how many lists each number stands.
 ///
-/// Proper ones mostly send the list that one sends oneself, so lists equal to it
+/// Correct ones mostly send the list that one sends oneself, so lists equal to it
 /// are only counted. The numbers of all others are put in a row and sorted; a
 /// number's count among them is then the length of its run. This costs about the
-/// same however the lists are made, so a liar cannot make a controller slow by
-/// its choice of numbers.
+/// same however the lists are made, so no choice of numbers makes a controller slow.
 pub struct Tally<'a, const ROOM: usize> {
     own: &'a [u32],
     own_bytes: [u8; 4 * MAX_NUMBERS],

@@ -1,4 +1,4 @@
-//! The settle engine of one belt controller, in plain Rust.
+//! The agreement engine of one controller, in plain Rust.
 //!
 //! This is written from document 01 alone and shares nothing with the compiled
 //! engine: it is what the compiled engine is compared with, and the yardstick
@@ -43,7 +43,7 @@ pub enum Refusal {
     BadStart = 9,
 }
 
-/// Starts a controller with its number and the bit it brings in.
+/// Starts a controller with its number and its input, a bit.
 /// The image is written, not read.
 pub fn start(number: u32, bit: u8, image: &mut [u8], out: &mut [u8], length: &mut usize) -> u8 {
     answer(try_start(number, bit, image, out), length)

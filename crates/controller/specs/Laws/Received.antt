@@ -10,14 +10,14 @@ use native.Mathlib.Decide.{ℕ-discrete}
 use native.Mathlib.Omega.{arith}
 use lib.Dec.{leb, eqb, ltb}
 use lib.ListN.{length}
-use Rattle.wire.specs.Frame.{Content, content, kindOf, kindSaid, bitSaid, bitIn, frameBytes, roundFits, writable, maxCount, readStored}
+use Rattle.wire.specs.Frame.{Content, content, kindOf, kindSaid, bitSaid, bitIn, frameBytes, roundFits, writable, maxCount}
 use Rattle.wire.specs.Laws.Frame.{kind-range, said-kind, said-bit, said-allowed, said-bound, writable-gives, reads-written, read-kind, read-writable}
 use Rattle.wire.specs.Limits.{maxNumbers, lastRound}
-use Rattle.wire.specs.Numbers.{rising, stored}
+use Rattle.wire.specs.Numbers.{rising}
 use Rattle.wire.specs.Tray.{Entry, entryCount, sender, entriesFrom, entries, firstBytes}
 use Rattle.controller.specs.Lists.{In, Rising}
 use Rattle.controller.specs.State.{View}
-use Rattle.controller.specs.Received.{frameOf, senders, heardAfter, readIn, received, says, opinionIn, listIn}
+use Rattle.controller.specs.Received.{frameOf, senders, readIn, receive, says, opinionIn, listIn}
 use Rattle.controller.specs.Laws.Lists.{true-or-false, inside-length, insert-all-in, insert-all-rising, rising-gives, rising-test}
 use Rattle.controller.specs.Laws.State.{SoundList, Sound}
 
@@ -40,26 +40,26 @@ sender-in b i h = senders-from-in b (entryCount b) 0 i (omega arith) (omega arit
 
 -- ---- who is heard, and the frame under each number
 
-pub heard-in : {x : ℕ} (v : View) (es : List Entry) → In x (heardAfter v es) ↔ (In x (senders es) ⊎ In x (v .heard))
-unfolding heardAfter
-heard-in v es = insert-all-in (senders es) (v .heard)
+pub heard-in : {x : ℕ} (v : View) (es : List Entry) → In x ((receive v es) .heard) ↔ (In x (senders es) ⊎ In x (v .rotor .heard))
+unfolding receive
+heard-in v es = insert-all-in (senders es) (v .rotor .heard)
 
-pub heard-rising : (v : View) (es : List Entry) → Rising (v .heard) → Rising (heardAfter v es)
-unfolding heardAfter
-heard-rising v es up = insert-all-rising (senders es) (v .heard) up
+pub heard-rising : (v : View) (es : List Entry) → Rising (v .rotor .heard) → Rising ((receive v es) .heard)
+unfolding receive
+heard-rising v es up = insert-all-rising (senders es) (v .rotor .heard) up
 
 -- somebody, oneself, is always heard
-pub heard-some : (v : View) (es : List Entry) → Sound v → 0 < length (heardAfter v es)
+pub heard-some : (v : View) (es : List Entry) → Sound v → 0 < length ((receive v es) .heard)
 heard-some v es h =
     inside-length (v .own ∷ []) (List·Memᴰ·not-nil, tt)
     (λ x i. heard-in v es .1 (inr (Memᴰ·cast (List·Memᴰ·eq-of-singleton i) (h .hears-itself))))
 
-pub received-own : (v : View) (es : List Entry) → received v es (v .own) ≡ some (frameOf v)
-unfolding received
+pub received-own : (v : View) (es : List Entry) → (receive v es) .from (v .own) ≡ some (frameOf v)
+unfolding receive
 received-own v es = rw (eq-eqb (v .own) (v .own) refl)
 
-pub received-other : (v : View) (es : List Entry) (x : ℕ) → x ≢ v .own → received v es x ≡ readIn (v .round) (firstBytes x es)
-unfolding received
+pub received-other : (v : View) (es : List Entry) (x : ℕ) → x ≢ v .own → (receive v es) .from x ≡ readIn (v .round) (firstBytes x es)
+unfolding receive
 received-other v es x h = rw (ne-eqb x (v .own) h)
 
 -- one that is not heard is not oneself and has no entry
@@ -67,15 +67,10 @@ first-none : (x : ℕ) (es : List Entry) → (¬ In x (senders es)) → firstByt
 first-none x [] out = refl
 first-none x (e ∷ es) out = rw (ne-eqb (e .sender) x (λ q. out (List·Memᴰ·head (sym q)))) (first-none x es (λ i. out (List·Memᴰ·tail i)))
 
-pub unheard-received : (v : View) (es : List Entry) → Sound v → (x : ℕ) → (¬ In x (heardAfter v es)) → received v es x ≡ none
+pub unheard-received : (v : View) (es : List Entry) → Sound v → (x : ℕ) → (¬ In x ((receive v es) .heard)) → (receive v es) .from x ≡ none
 unheard-received v es h x out =
     let other : x ≢ v .own = λ e. out (heard-in v es .1 (inr (Memᴰ·cast e (h .hears-itself)))) in
     received-other v es x other ∙ rw (first-none x es (λ i. out (heard-in v es .1 (inl i))))
-
--- the list of a frame that is read, as it is stored
-pub read-numbers-are : (o : Option Content) → (readStored o) .numbers ≡ stored (listIn o)
-read-numbers-are none = refl
-read-numbers-are (some c) = refl
 
 -- ---- the frame of a sound state
 
@@ -96,37 +91,37 @@ numbers-fit k l h = pick (eqb k 2) (eqb k 5)
 -- what it says, by kind and bit
 frame-kind : (v : View) → kindSaid ((frameOf v) .said) ≡ kindOf (v .round)
 unfolding frameOf
-frame-kind v = let k = kind-range (v .round) in said-kind (kindOf (v .round)) (v .said) (k .0) (k .1)
+frame-kind v = let k = kind-range (v .round) in said-kind (kindOf (v .round)) (v .bit .said) (k .0) (k .1)
 
-frame-bit : (v : View) → Sound v → bitSaid ((frameOf v) .said) ≡ v .said
+frame-bit : (v : View) → Sound v → bitSaid ((frameOf v) .said) ≡ v .bit .said
 unfolding frameOf
-frame-bit v h = let k = kind-range (v .round) in said-bit (kindOf (v .round)) (v .said) (k .0) (k .1) (h .said)
+frame-bit v h = let k = kind-range (v .round) in said-bit (kindOf (v .round)) (v .bit .said) (k .0) (k .1) (h .said)
 
 -- the frame of a sound state is allowed, so it is written, and reads back
 pub frame-writable : (v : View) → Sound v → writable (frameOf v) ≡ true
 unfolding writable roundFits frameOf
 frame-writable v h =
     let k = kind-range (v .round) in
-    let numbers = numbers-fit (kindOf (v .round)) (v .echoes) (h .echoes) in
+    let numbers = numbers-fit (kindOf (v .round)) (v .rotor .echoes) (h .echoes) in
     rw (
       le-leb 1 (v .round) (h .early),
       le-leb (v .round) lastRound (h .late),
-      said-kind (kindOf (v .round)) (v .said) (k .0) (k .1),
+      said-kind (kindOf (v .round)) (v .bit .said) (k .0) (k .1),
       eq-eqb (kindOf (v .round)) (kindOf (v .round)) refl,
-      said-allowed (kindOf (v .round)) (v .said) (k .0) (k .1) (h .said),
+      said-allowed (kindOf (v .round)) (v .bit .said) (k .0) (k .1) (h .said),
       le-leb _ _ (numbers .0),
       numbers .1,
     )
 
-pub frame-reads : (v : View) → Sound v → content (frameBytes (frameOf v)) (v .round) ≡ some (frameOf v)
+pub own-frame-reads : (v : View) → Sound v → content (frameBytes (frameOf v)) (v .round) ≡ some (frameOf v)
 unfolding frameOf
-frame-reads v h = reads-written (frameOf v) (frame-writable v h)
+own-frame-reads v h = reads-written (frameOf v) (frame-writable v h)
 
 -- what the frame of a sound state says
-pub frame-says : (v : View) → Sound v → (k b : ℕ) → says k b (some (frameOf v)) ≡ (eqb (kindOf (v .round)) k && eqb (v .said) b)
+pub frame-says : (v : View) → Sound v → (k b : ℕ) → says k b (some (frameOf v)) ≡ (eqb (kindOf (v .round)) k && eqb (v .bit .said) b)
 frame-says v h k b = rw (frame-kind v, frame-bit v h)
 
-pub frame-list : (v : View) → listIn (some (frameOf v)) ≡ cond (ltb 0 (maxCount (kindOf (v .round)))) (v .echoes) []
+pub frame-list : (v : View) → listIn (some (frameOf v)) ≡ cond (ltb 0 (maxCount (kindOf (v .round)))) (v .rotor .echoes) []
 unfolding frameOf
 frame-list v = refl
 
@@ -136,8 +131,8 @@ read-allowed : (t : ℕ) (b : Option (List ℕ)) (c : Content) → readIn t b �
 read-allowed t none c e = let z : _≡_ {A = ℕ} 0 1 = cc in absurd (omega arith)
 read-allowed t (some b) c e = read-writable b t c e
 
-pub received-allowed : (v : View) (es : List Entry) → Sound v → (x : ℕ) (c : Content) → received v es x ≡ some c → writable c ≡ true
-unfolding received
+pub received-allowed : (v : View) (es : List Entry) → Sound v → (x : ℕ) (c : Content) → (receive v es) .from x ≡ some c → writable c ≡ true
+unfolding receive
 received-allowed v es h x c = pick (eqb x (v .own))
   where
     pick : (t : Bool) → cond t (some (frameOf v)) (readIn (v .round) (firstBytes x es)) ≡ some c → writable c ≡ true
@@ -149,8 +144,8 @@ list-positive none allowed y i = absurd (List·Memᴰ·not-nil i)
 list-positive (some c) allowed y i = rising-gives (c .numbers) (writable-gives c (allowed c refl) .rise) .1 y i
 
 -- the numbers of a frame that was read, or of the own frame of a sound state, are above 0
-pub received-positive : (v : View) (es : List Entry) → Sound v → (x y : ℕ) → In y (listIn (received v es x)) → 0 < y
-received-positive v es h x = list-positive (received v es x) (received-allowed v es h x)
+pub received-positive : (v : View) (es : List Entry) → Sound v → (x y : ℕ) → In y (listIn ((receive v es) .from x)) → 0 < y
+received-positive v es h x = list-positive ((receive v es) .from x) (received-allowed v es h x)
 
 -- ---- the bit of what is received tells what it says, since its kind is the round's
 
@@ -158,8 +153,8 @@ read-of-kind : (t : ℕ) (b : Option (List ℕ)) (c : Content) → readIn t b �
 read-of-kind t none c e = let z : _≡_ {A = ℕ} 0 1 = cc in absurd (omega arith)
 read-of-kind t (some b) c e = read-kind b t c e
 
-received-kind : (v : View) (es : List Entry) (x : ℕ) (c : Content) → received v es x ≡ some c → kindSaid (c .said) ≡ kindOf (v .round)
-unfolding received
+received-kind : (v : View) (es : List Entry) (x : ℕ) (c : Content) → (receive v es) .from x ≡ some c → kindSaid (c .said) ≡ kindOf (v .round)
+unfolding receive
 received-kind v es x c = pick (eqb x (v .own))
   where
     pick : (t : Bool) → cond t (some (frameOf v)) (readIn (v .round) (firstBytes x es)) ≡ some c → kindSaid (c .said) ≡ kindOf (v .round)
@@ -167,7 +162,7 @@ received-kind v es x c = pick (eqb x (v .own))
     pick false e = read-of-kind (v .round) (firstBytes x es) c e
 
 -- the bit under the own number, or of a frame that was read
-pub bit-under : (v : View) → Sound v → (t : Bool) (o : Option Content) → cond t (v .said) (bitIn o) ≡ bitIn (cond t (some (frameOf v)) o)
+pub bit-under : (v : View) → Sound v → (t : Bool) (o : Option Content) → cond t (v .bit .said) (bitIn o) ≡ bitIn (cond t (some (frameOf v)) o)
 bit-under v h true o = sym (frame-bit v h)
 bit-under v h false o = refl
 
@@ -175,15 +170,18 @@ says-by-bit : (k b : ℕ) (o : Option Content) → ((c : Content) → o ≡ some
 says-by-bit k b none kind l = ne-eqb 3 b (λ e. omega arith)
 says-by-bit k b (some c) kind l = rw (eq-eqb _ _ (kind c refl))
 
-pub received-says : (v : View) (es : List Entry) (x b : ℕ) → b < 3 → eqb (bitIn (received v es x)) b ≡ says (kindOf (v .round)) b (received v es x)
-received-says v es x b = says-by-bit (kindOf (v .round)) b (received v es x) (received-kind v es x)
+pub received-says : (v : View) (es : List Entry) (x b : ℕ) → b < 3
+    → eqb (bitIn ((receive v es) .from x)) b ≡ says (kindOf (v .round)) b ((receive v es) .from x)
+received-says v es x b = says-by-bit (kindOf (v .round)) b ((receive v es) .from x) (received-kind v es x)
 
 bit-or-none : (b : ℕ) → b ≤ 2 → b ≡ cond (leb b 1) b 2
 bit-or-none b l = elim (true-or-false (leb b 1)) [ inl t ↦ rw t | inr t ↦ rw t (omega (arith, leb-false b 1 t)) ]
 
-opinion-by-bit : (o : Option Content) → ((c : Content) → o ≡ some c → (kindSaid (c .said) ≡ 5) × (writable c ≡ true)) → opinionIn o ≡ cond (leb (bitIn o) 1) (bitIn o) 2
+opinion-by-bit : (o : Option Content) → ((c : Content) → o ≡ some c → (kindSaid (c .said) ≡ 5) × (writable c ≡ true))
+    → opinionIn o ≡ cond (leb (bitIn o) 1) (bitIn o) 2
 opinion-by-bit none is = refl
 opinion-by-bit (some c) is = rw (eq-eqb _ _ (is c refl .0)) (bit-or-none (bitSaid (c .said)) (said-bound (c .said) (writable-gives c (is c refl .1) .said)))
 
-pub received-opinion : (v : View) (es : List Entry) → Sound v → kindOf (v .round) ≡ 5 → (x : ℕ) → opinionIn (received v es x) ≡ cond (leb (bitIn (received v es x)) 1) (bitIn (received v es x)) 2
-received-opinion v es h k x = opinion-by-bit (received v es x) (λ c e. (received-kind v es x c e ∙ k, received-allowed v es h x c e))
+pub received-opinion : (v : View) (es : List Entry) → Sound v → kindOf (v .round) ≡ 5 → (x : ℕ)
+    → opinionIn ((receive v es) .from x) ≡ cond (leb (bitIn ((receive v es) .from x)) 1) (bitIn ((receive v es) .from x)) 2
+received-opinion v es h k x = opinion-by-bit ((receive v es) .from x) (λ c e. (received-kind v es x c e ∙ k, received-allowed v es h x c e))

@@ -14,27 +14,21 @@ use Rattle.wire.specs.Numbers.{rising, stored, listed}
 use Rattle.wire.specs.Laws.Numbers.{listed-stored}
 use Rattle.wire.specs.declared.frame.Numbers.{Numbers}
 use Rattle.controller.specs.Lists.{In, mem, Rising}
-use Rattle.controller.specs.State.{View, view, image, startView, same, soundList, none, soundSaid, soundEmpty, sound}
+use Rattle.controller.specs.State.{View, view, storedState, startView, same, soundList, isEmpty, soundSaid, soundEmpty, sound, bitPart, stateFrom}
 use Rattle.controller.specs.Laws.Lists.{in-mem, mem-in, rising-gives, rising-test}
 use Rattle.controller.specs.declared.state.State.{State}
 
-pub view-image : (v : View) → view (image v) ≡ v
-view-image v =
-    let heard = listed-stored (v .heard) in
-    let candidates = listed-stored (v .candidates) in
-    let echoes = listed-stored (v .echoes) in
+pub view-stored : (v : View) → view (storedState v) ≡ v
+view-stored v =
+    let heard = listed-stored (v .rotor .heard) in
+    let candidates = listed-stored (v .rotor .candidates) in
+    let echoes = listed-stored (v .rotor .echoes) in
     λ i.
     record {
       own = v .own;
       round = v .round;
+      rotor = record { heard = heard i; candidates = candidates i; echoes = echoes i; king = v .rotor .king };
       bit = v .bit;
-      said = v .said;
-      strong = v .strong;
-      king = v .king;
-      decision = v .decision;
-      heard = heard i;
-      candidates = candidates i;
-      echoes = echoes i;
     }
 
 -- a list as a sound state has it
@@ -48,17 +42,17 @@ pub record Sound (v : View) : Type 0 where
   pub early : 1 ≤ v .round
   pub late : v .round ≤ lastRound
   pub numbered : v .own ≢ 0
-  pub hears-itself : In (v .own) (v .heard)
-  pub heard : SoundList (v .heard)
-  pub candidates : SoundList (v .candidates)
-  pub echoes : SoundList (v .echoes)
-  pub said : bitFits (kindOf (v .round)) (v .said) ≡ true
-  pub said-value : kindOf (v .round) ≡ 3 → v .said ≡ v .bit
-  pub no-candidates : v .round ≤ 2 → v .candidates ≡ []
-  pub no-echoes : v .round ≤ 1 → v .echoes ≡ []
-  pub bit : v .bit ≤ 1
-  pub strong : v .strong ≤ 1
-  pub decision : v .decision ≤ 2
+  pub hears-itself : In (v .own) (v .rotor .heard)
+  pub heard : SoundList (v .rotor .heard)
+  pub candidates : SoundList (v .rotor .candidates)
+  pub echoes : SoundList (v .rotor .echoes)
+  pub said : bitFits (kindOf (v .round)) (v .bit .said) ≡ true
+  pub said-value : kindOf (v .round) ≡ 3 → v .bit .said ≡ v .bit .own
+  pub no-candidates : v .round ≤ 2 → v .rotor .candidates ≡ []
+  pub no-echoes : v .round ≤ 1 → v .rotor .echoes ≡ []
+  pub bit : v .bit .own ≤ 1
+  pub strong : v .bit .strong ≤ 1
+  pub decision : v .bit .decision ≤ 2
 
 -- ---- the tests that soundness is made of
 
@@ -81,9 +75,9 @@ pub same-append : (l m k : List ℕ) → same (l ++ m) (l ++ k) ≡ same m k
 same-append [] m k = refl
 same-append (x ∷ l) m k = rw (eq-eqb x x refl) (same-append l m k)
 
-none-gives : (l : List ℕ) → none l ≡ true → l ≡ []
-none-gives [] h = refl
-none-gives (x ∷ l) h = absurd (omega (arith, eqb-true (length (x ∷ l)) 0 h))
+empty-gives : (l : List ℕ) → isEmpty l ≡ true → l ≡ []
+empty-gives [] h = refl
+empty-gives (x ∷ l) h = absurd (omega (arith, eqb-true (length (x ∷ l)) 0 h))
 
 -- b is tested only where a holds
 when-is : (a b : Bool) → (cond a b true ≡ true) ↔ (a ≡ true → b ≡ true)
@@ -185,7 +179,7 @@ sound-gives s h =
     let t = tests-give s h in
     let round = and-eq-true-iff (leb 1 (s .round)) (leb (s .round) lastRound) .0 (t .round) in
     let said = and-eq-true-iff (bitFits (kindOf (s .round)) (s .said)) _ .0 (t .said) in
-    let empty = and-eq-true-iff (cond (leb (s .round) 2) (none (listed (s .candidates))) true) _ .0 (t .empty) in
+    let empty = and-eq-true-iff (cond (leb (s .round) 2) (isEmpty (listed (s .candidates))) true) _ .0 (t .empty) in
     record {
       early = leb-true _ _ (round .0);
       late = leb-true _ _ (round .1);
@@ -196,8 +190,8 @@ sound-gives s h =
       echoes = sound-list-gives (s .echoes) (t .echoes) .list;
       said = said .0;
       said-value = λ e. eqb-true _ _ (when-is _ _ .0 (said .1) (eq-eqb _ _ e));
-      no-candidates = λ l. none-gives _ (when-is _ _ .0 (empty .0) (le-leb _ _ l));
-      no-echoes = λ l. none-gives _ (when-is _ _ .0 (empty .1) (le-leb _ _ l));
+      no-candidates = λ l. empty-gives _ (when-is _ _ .0 (empty .0) (le-leb _ _ l));
+      no-echoes = λ l. empty-gives _ (when-is _ _ .0 (empty .1) (le-leb _ _ l));
       bit = leb-true _ _ (t .bit);
       strong = leb-true _ _ (t .strong);
       decision = leb-true _ _ (t .decision);
@@ -210,42 +204,33 @@ pub sound-candidates : (s : State) → sound s ≡ true → soundList (s .candid
 sound-candidates s h = tests-give s h .candidates
 
 -- a sound state is the stored form of its view
-pub sound-stored : (s : State) → sound s ≡ true → image (view s) ≡ s
+pub sound-stored : (s : State) → sound s ≡ true → storedState (view s) ≡ s
 sound-stored s h =
     let t = tests-give s h in
     let heard = sound-list-gives (s .heard) (t .heard) .back in
     let candidates = sound-list-gives (s .candidates) (t .candidates) .back in
     let echoes = sound-list-gives (s .echoes) (t .echoes) .back in
     λ i.
-    record {
-      own = s .own;
-      round = s .round;
-      bit = s .bit;
-      said = s .said;
-      strong = s .strong;
-      king = s .king;
-      decision = s .decision;
-      heard = heard i;
-      candidates = candidates i;
-      echoes = echoes i;
-    }
+    stateFrom (s .own) (s .round) (bitPart s) (s .king) (heard i) (candidates i) (echoes i)
 
-pub sound-test : (v : View) → Sound v → sound (image v) ≡ true
+pub sound-test : (v : View) → Sound v → sound (storedState v) ≡ true
 unfolding roundFits
 sound-test v h =
-    tests-sound (image v)
+    tests-sound (storedState v)
     record {
       round = and-eq-true-iff (leb 1 (v .round)) (leb (v .round) lastRound) .1 (le-leb _ _ (h .early), le-leb _ _ (h .late));
       numbered = ap not (ne-eqb _ _ (h .numbered));
-      hears-itself = rw (listed-stored (v .heard)) (in-mem (h .hears-itself));
-      heard = sound-list-test (v .heard) (h .heard);
-      candidates = sound-list-test (v .candidates) (h .candidates);
-      echoes = sound-list-test (v .echoes) (h .echoes);
+      hears-itself = rw (listed-stored (v .rotor .heard)) (in-mem (h .hears-itself));
+      heard = sound-list-test (v .rotor .heard) (h .heard);
+      candidates = sound-list-test (v .rotor .candidates) (h .candidates);
+      echoes = sound-list-test (v .rotor .echoes) (h .echoes);
       said = and-eq-true-iff _ _ .1 (h .said, when-is _ _ .1 (λ e. eq-eqb _ _ (h .said-value (eqb-true _ _ e))));
       empty =
           and-eq-true-iff _ _ .1 (
-            when-is (leb (v .round) 2) (none (listed (stored (v .candidates)))) .1 (λ e. rw (listed-stored (v .candidates), h .no-candidates (leb-true _ _ e))),
-            when-is (leb (v .round) 1) (none (listed (stored (v .echoes)))) .1 (λ e. rw (listed-stored (v .echoes), h .no-echoes (leb-true _ _ e))),
+            when-is (leb (v .round) 2) (isEmpty (listed (stored (v .rotor .candidates)))) .1
+                (λ e. rw (listed-stored (v .rotor .candidates), h .no-candidates (leb-true _ _ e))),
+            when-is (leb (v .round) 1) (isEmpty (listed (stored (v .rotor .echoes)))) .1
+                (λ e. rw (listed-stored (v .rotor .echoes), h .no-echoes (leb-true _ _ e))),
           );
       bit = le-leb _ _ (h .bit);
       strong = le-leb _ _ (h .strong);

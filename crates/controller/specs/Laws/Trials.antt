@@ -5,9 +5,9 @@ use Rattle.wire.specs.Tray.{roundOf, entryCount, inDirectory, sender, wellForme
 use Rattle.wire.specs.Trials.{All}
 use Rattle.controller.specs.Thirds.{third, twoThirds}
 use Rattle.controller.specs.State.{sound}
-use Rattle.controller.specs.Received.{frameOf, heardAfter, received}
+use Rattle.controller.specs.Received.{frameOf, receive}
 use Rattle.controller.specs.Rotation.{roster}
-use Rattle.controller.specs.Rules.{next}
+use Rattle.controller.specs.Rules.{step}
 use Rattle.controller.specs.Refusals.{trayRefusal}
 use Rattle.controller.specs.Trials.{Holds, trials}
 
@@ -18,7 +18,7 @@ a and b = (a, b)
 
 pub trials-hold : All Holds trials
 unfolding kindOf saidBy bitFits maxCount lengthFits roundFits headFits bodyFits readRefusal content roundOf entryCount inDirectory sender
-    wellFormed part entries third twoThirds sound frameOf heardAfter received roster next trayRefusal
+    wellFormed part entries third twoThirds sound frameOf receive roster step trayRefusal
 trials-hold =
     (refl, refl) and (refl, refl) and (refl, refl) and (refl, refl) and (refl, refl) and
     (refl, refl) and (refl, refl) and (refl, refl) and (refl, refl) and (refl, refl) and

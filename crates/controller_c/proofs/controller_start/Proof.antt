@@ -4,9 +4,16 @@ use borrow.Author.Needs.{needs}
 use borrow.Author.Tests.{eq-eqb, ne-eqb}
 use Rattle.controller_c.specs.Image.{imageBytes}
 use Rattle.controller_c.specs.Laws.Calls.{start-makes}
-use Rattle.controller_c.proofs.Promises.{parted, made-sound, promise-handed, promise-refused}
+use Rattle.controller_c.proofs.Promises.{parted, made-sound, promise-handed, image-refused}
 use Rattle.controller_c.proofs.controller_start.Statement.{statement}
 use Rattle.controller_c.proofs.controller_start.Tie as tie
+
+-- the call of `start`, and its answer in parts
+abbrev started : tie.After-fields-of → tie.After-start
+started c = c .before .before .before .before .before .before .before
+
+abbrev parts : tie.After-hand-over-arg5 → tie.After-fields-of
+parts c = c .before .before .before .before .before .before .before .before
 
 start-requires : tie.Need-start-requires
 start-requires c κs = search needs
@@ -16,8 +23,8 @@ fields-of-requires c κs = search needs
 
 hand-over-requires : tie.Need-hand-over-requires
 hand-over-requires c κs =
-    let apart = c .before .before .before .before .before .before .before .before in
-    let begun = apart .before .before .before .before .before .before .before in
+    let apart = parts c in
+    let begun = started apart in
     record {
       whole = search needs;
       made = made-sound _ _ _ _ _ _ (parted _ _ _ _ _ _ (begun .start .ensures) _ _ _ _ (apart .fields-of .ensures)) (start-makes _ _ _);
@@ -35,14 +42,14 @@ same-length-2 c = search needs
 returns : tie.Need-returns
 returns c =
     let handed = c .before .before in
-    let apart = handed .before .before .before .before .before .before .before .before .before in
-    let begun = apart .before .before .before .before .before .before .before in
+    let apart = parts (handed .before) in
+    let begun = started apart in
     promise-handed _ _ _ _ _ _ (parted _ _ _ _ _ _ (begun .start .ensures) _ _ _ _ (apart .fields-of .ensures)) _ _ _ _ _
     (rw (eq-eqb _ imageBytes (begun .before .before .if1 .taken)))
     (handed .hand-over .ensures)
 
 returns-2 : tie.Need-returns-2
-returns-2 c = promise-refused _ _ _ _ _ _ (rw (ne-eqb _ imageBytes (c .before .before .if1 .left))) (c .no-image .ensures)
+returns-2 c = image-refused _ _ _ _ _ _ (rw (ne-eqb _ imageBytes (c .before .before .if1 .left))) (c .no-image .ensures)
 
 pub controller-start-spec : {M : Type 1} → statement M
 controller-start-spec =

@@ -12,7 +12,7 @@ use Rattle.controller.specs.declared.state.State.{State}
 use Rattle.controller_c.specs.Image.{shaped}
 use Rattle.controller_c.specs.Laws.Calls.{shaped-refusal, unshaped-refusal, tray-makes}
 use Rattle.controller_c.specs.Laws.Image.{shaped-length}
-use Rattle.controller_c.proofs.Promises.{made-sound, promise-handed, promise-refused}
+use Rattle.controller_c.proofs.Promises.{made-sound, promise-handed, image-refused}
 use Rattle.controller_c.proofs.controller_tray.Statement.{statement}
 use Rattle.controller_c.proofs.controller_tray.Tie as tie
 
@@ -20,24 +20,37 @@ use Rattle.controller_c.proofs.controller_tray.Tie as tie
 joined : (s d : State) (t before : List ℕ) (a : Answer) (after : List ℕ) → s ≡ d → TrayPromise s t before a after → TrayPromise d t before a after
 joined s d t before a after e p = rw e at p
 
-passed : (c : tie.Then1) → shaped (now (c .before .before .before .before .before .before .args .image)) ≡ true
+-- what was given; a shaped image, and its parts; the call of `work`
+abbrev given : tie.After-slice-known2 → tie.Start
+given c = c .before .before .before
+
+abbrev fits : tie.After-candidates → tie.Then1
+fits c = c .before .before .before
+
+abbrev parts : tie.After-echoes2 → tie.After-take-apart
+parts c = c .before .before .before
+
+abbrev worked : tie.After-hand-over-arg2 → tie.After-work
+worked c = c .before .before .before .before .before .before .before
+
+passed : (c : tie.Then1) → shaped (now (given (c .before .before .before) .args .image)) ≡ true
 passed c = sym (c .before .is-shaped .ensures) ∙ c .if1 .taken
 
 is-shaped-requires : tie.Need-is-shaped-requires
 is-shaped-requires c κs = search needs
 
 take-apart-requires : tie.Need-take-apart-requires
-take-apart-requires c κs = (shaped-length _ (passed (c .before .before .before .before)), refl, refl, refl)
+take-apart-requires c κs = (shaped-length _ (passed (fits (c .before))), refl, refl, refl)
 
 work-requires : tie.Need-work-requires
 work-requires c κs = search needs
 
 hand-over-requires : tie.Need-hand-over-requires
 hand-over-requires c κs =
-    let done = c .before .before .before .before .before .before .before in
-    let apart = done .before .before .before .before .before in
+    let done = worked c in
+    let apart = parts (done .before .before) in
     record {
-      whole = shaped-length _ (passed (apart .before .before .before .before .before));
+      whole = shaped-length _ (passed (fits (apart .before .before)));
       made = made-sound _ _ _ _ _ _ (done .work .ensures) (tray-makes _ _ _);
     }
 
@@ -53,10 +66,10 @@ same-length-2 c = search needs
 returns : tie.Need-returns
 returns c =
     let handed = c .before .before in
-    let done = handed .before .before .before .before .before .before .before .before in
-    let apart = done .before .before .before .before .before in
-    let shaped = apart .before .before .before .before .before in
-    let t = now (shaped .before .before .before .before .before .before .args .tray) in
+    let done = worked (handed .before) in
+    let apart = parts (done .before .before) in
+    let shaped = fits (apart .before .before) in
+    let t = now (given (shaped .before .before .before) .args .tray) in
     promise-handed _ _ _ _ _ _ (joined _ _ t _ _ _ (apart .take-apart .ensures) (done .work .ensures)) _ _ _ _ _
     (shaped-refusal _ _ _ (passed shaped))
     (handed .hand-over .ensures)
@@ -65,7 +78,9 @@ same-length-3 : tie.Need-same-length-3
 same-length-3 c = search needs
 
 returns-2 : tie.Need-returns-2
-returns-2 c = promise-refused _ _ _ _ _ _ (unshaped-refusal _ _ _ (sym (c .before .before .before .is-shaped .ensures) ∙ c .before .before .if1 .left)) (c .no-image .ensures)
+returns-2 c =
+    image-refused _ _ _ _ _ _ (unshaped-refusal _ _ _ (sym (c .before .before .before .is-shaped .ensures) ∙ c .before .before .if1 .left))
+    (c .no-image .ensures)
 
 pub controller-tray-spec : {M : Type 1} → statement M
 controller-tray-spec =

@@ -4,15 +4,25 @@ use borrow.Author.Tests.{eq-eqb, ne-eqb}
 use Rattle.controller_c.proofs.hand_over.Statement.{statement}
 use Rattle.controller_c.proofs.hand_over.Tie as tie
 
+-- what was given; the image is asked for, and laid out
+abbrev given : tie.Then1 → tie.Start
+given c = c .before .before
+
+abbrev asked : tie.After-lay-out-arg → tie.Then1
+asked c = c .before .before
+
+abbrev laid : tie.After-slice-known2 → tie.After-lay-out-arg
+laid c = c .before .before .before
+
 lay-out-requires : tie.Need-lay-out-requires
-lay-out-requires c κs = (c .before .before .before .before .pre .made (c .before .before .if1 .taken), c .before .before .before .before .pre .whole)
+lay-out-requires c κs = (given (asked c) .pre .made (asked c .if1 .taken), given (asked c) .pre .whole)
 
 same-length : tie.Need-same-length
 same-length c = search needs
 
 returns : tie.Need-returns
 returns c =
-    let t = c .before .before .before .before .before .if1 .taken in
+    let t = asked (laid c) .if1 .taken in
     record { number = search needs; image = rw (eq-eqb _ _ t) (c .before .before .lay-out .ensures); written = search needs }
 
 returns-2 : tie.Need-returns-2

@@ -24,7 +24,8 @@ use Rattle.wire.specs.declared.frame.Numbers.{Numbers}
 use Rattle.controller.specs.State.{soundList, sound}
 use Rattle.controller.specs.Laws.State.{sound-list-gives, sound-list-test, sound-gives, sound-stored}
 use Rattle.controller.specs.declared.state.State.{State}
-use Rattle.controller_c.specs.Image.{imageBytes, heardAt, candidatesAt, echoesAt, reservedAt, countBytes, listWidth, headBytes, listBytes, zerosFrom, laidOut, placesAt, listAt, takenApart, zeros, shaped, soundImage}
+use Rattle.controller_c.specs.Image.{imageBytes, heardAt, candidatesAt, echoesAt, reservedAt, countBytes, listWidth, headBytes, listBytes}
+use Rattle.controller_c.specs.Image.{zerosFrom, laidOut, placesAt, listAt, takenApart, zeros, shaped, soundImage}
 
 -- ---- lengths
 
@@ -211,7 +212,12 @@ module _ (s : State) (z : SizedLists s) where
       let l = listBytes (s .heard) ++ listBytes (s .candidates) in
       let r = listBytes (s .echoes) ++ zerosFrom reservedAt in
       let size : length (headBytes s ++ l) ≡ echoesAt =
-      omega (arith, length-append (listBytes (s .heard)) (listBytes (s .candidates)), list-bytes-length (s .heard) (z .heard), list-bytes-length (s .candidates) (z .candidates)) in
+      omega (
+        arith,
+        length-append (listBytes (s .heard)) (listBytes (s .candidates)),
+        list-bytes-length (s .heard) (z .heard),
+        list-bytes-length (s .candidates) (z .candidates),
+      ) in
       ap (λ (b : List ℕ). listAt b echoesAt)
       (ap (λ (t : List ℕ). headBytes s ++ t) (sym (append-assoc (listBytes (s .heard)) (listBytes (s .candidates)) r)) ∙ sym (append-assoc (headBytes s) l r))
       ∙ list-back (headBytes s ++ l) (s .echoes) (zerosFrom reservedAt) echoesAt size (z .echoes)
@@ -328,86 +334,3 @@ unfolding soundImage shaped
 laidOut-sound s h =
     let z = sound-sized s h in
     rw (eq-eqb (length (laidOut s)) imageBytes (laid-out-length s z), reserved-zero s z, zeros-from reservedAt, takenApart-laidOut s h) h
-
--- ---- what is laid out is made of bytes
-
-data Bytes : List ℕ → Type 0 where
-  none : Bytes []
-  more : (x : ℕ) {l : List ℕ} → x < 256 → Bytes l → Bytes (x ∷ l)
-
-bytes-append : {l m : List ℕ} → Bytes l → Bytes m → Bytes (l ++ m)
-bytes-append none d = d
-bytes-append (more x h b) d = more x h (bytes-append b d)
-
-bytes-below : {l : List ℕ} → Bytes l → Below 256 l
-bytes-below none i = omega arith
-bytes-below (more x h b) zero = h
-bytes-below (more x h b) (suc i) = bytes-below b i
-
-zeros-bytes : (n : ℕ) → Bytes (replicate n 0)
-zeros-bytes zero = none
-zeros-bytes (suc n) = more 0 (omega arith) (zeros-bytes n)
-
--- what a field of 32 bits holds
-abbrev pub wide : ℕ
-wide = 4294967296
-
-word-bytes : (x : ℕ) → x < wide → Bytes (wordBytes x)
-word-bytes x h =
-    more (x / 256 / 256 / 256) (omega arith)
-    (more (x / 256 / 256 % 256) (omega arith)
-    (more (x / 256 % 256) (omega arith)
-    (more (x % 256) (omega arith) none)))
-
-words-bytes : (l : List ℕ) → Below wide l → Bytes (wordsBytes l)
-words-bytes [] b = none
-words-bytes (x ∷ l) b = bytes-append (word-bytes x (b 0)) (words-bytes l (λ (i : ℕ). b (suc i)))
-
-list-bytes : (n : Numbers) → Sized n → Below wide (n .at) → Bytes (listBytes n)
-list-bytes n z b = let few = z .few in bytes-append (word-bytes (n .len) (omega arith)) (words-bytes (n .at) b)
-
-reserved-bytes : Bytes (zerosFrom reservedAt)
-unfolding zerosFrom
-reserved-bytes = zeros-bytes (imageBytes - reservedAt)
-
-bit-small : (k b : ℕ) → bitFits k b ≡ true → b ≤ 2
-unfolding bitFits
-bit-small k b = pick (leb k 2) (eqb k 3)
-  where
-    pick : (x y : Bool) → cond x (eqb b 2) (cond y (leb b 1) (leb b 2)) ≡ true → b ≤ 2
-    pick true y h = let e = eqb-true b 2 h in omega arith
-    pick false true h = let e = leb-true b 1 h in omega arith
-    pick false false h = leb-true b 2 h
-
--- the numbers of a state that soundness leaves free are of 32 bits, as the code has them
-pub record Fits (s : State) : Type 0 where
-  pub own : s .own < wide
-  pub king : s .king < wide
-  pub heard : Below wide (s .heard .at)
-  pub candidates : Below wide (s .candidates .at)
-  pub echoes : Below wide (s .echoes .at)
-
-head-bytes : (s : State) → sound s ≡ true → Fits s → Bytes (headBytes s)
-head-bytes s h f =
-    let g = sound-gives s h in
-    let round = g .late in
-    let bit = g .bit in
-    let said = bit-small _ _ (g .said) in
-    let strong = g .strong in
-    let decision = g .decision in
-    bytes-append (word-bytes (s .own) (f .own))
-    (bytes-append (word-bytes (s .round) (omega arith))
-    (more (s .bit) (omega arith)
-    (more (s .said) (omega arith)
-    (more (s .strong) (omega arith)
-    (bytes-append (word-bytes (s .king) (f .king)) (more (s .decision) (omega arith) none))))))
-
-pub laidOut-bytes : (s : State) → sound s ≡ true → Fits s → Below 256 (laidOut s)
-unfolding laidOut
-laidOut-bytes s h f =
-    let z = sound-sized s h in
-    bytes-below
-    (bytes-append (head-bytes s h f)
-    (bytes-append (list-bytes (s .heard) (z .heard) (f .heard))
-    (bytes-append (list-bytes (s .candidates) (z .candidates) (f .candidates))
-    (bytes-append (list-bytes (s .echoes) (z .echoes) (f .echoes)) reserved-bytes))))

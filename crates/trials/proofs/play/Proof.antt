@@ -5,10 +5,10 @@ use Rattle.trials.proofs.play.Statement.{statement}
 use Rattle.trials.proofs.play.Tie as tie
 
 abbrev Inv-loop : tie.InvT-loop
-Inv-loop lie now₀ round₀ now round = Unit {0}
+Inv-loop fault now₀ round₀ now round = Unit {0}
 
 abbrev μ-loop : tie.MeasureT-loop
-μ-loop lie now₀ round₀ now round = 15 - round
+μ-loop fault now₀ round₀ now round = 15 - round
 
 start-all-requires : tie.Need-start-all-requires Inv-loop μ-loop
 start-all-requires c κs = tt

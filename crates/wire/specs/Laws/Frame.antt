@@ -1,8 +1,8 @@
 -- Laws of frames.
-use Prim.Native.Nat.{ℕ, zero, suc, _+_, _*_, _%_, _≤_, _<_}
+use Prim.Native.Nat.{ℕ, zero, suc, _+_, _*_, _%_, _≤_}
 use mathlib.Core.Bool.{Bool, true, false, cond, _&&_, and-eq-true-iff}
 use mathlib.Core.List.{List, [], _∷_, _++_, append-nil}
-use mathlib.Core.Option.{Option, some, none}
+use mathlib.Core.Option.{some, none}
 use mathlib.Core.Logic.{_≢_}
 use mathlib.Core.Path.{_≡_, refl, sym, ap, _∙_}
 use borrow.Author.Tests.{leb-true, eqb-true, eqb-false, le-leb, eq-eqb, ne-eqb}
@@ -11,21 +11,21 @@ use native.Mathlib.Omega.{arith}
 use lib.Dec.{leb, eqb}
 use lib.ListN.{length, getD, drop}
 use lib.Seq.{drop-length}
-use Rattle.wire.specs.Limits.{frameHeader, numberWidth, kindAt, bitAt, countAt, maxNumbers}
+use Rattle.wire.specs.Limits.{frameHeader, numberWidth, kindAt, bitAt, countAt, maxNumbers, maxFrame}
 use Rattle.wire.specs.declared.frame.Choice.{Choice}
 use Rattle.wire.specs.declared.frame.Choice.the-variants.{Bit, None}
 use Rattle.wire.specs.declared.frame.Said.{Said}
 use Rattle.wire.specs.declared.frame.Said.the-variants.{Init, Roster, Value, Proposal, Opinion}
-use Rattle.wire.specs.declared.frame.FrameRead.{FrameRead}
-use Rattle.wire.specs.declared.frame.Numbers.{Numbers}
-use Rattle.wire.specs.Words.{wordAt, wordsAt, wordsBytes, Below}
-use Rattle.wire.specs.Numbers.{rising, stored}
-use Rattle.wire.specs.Laws.Numbers.{listed-stored}
+use Rattle.wire.specs.declared.frame.Read.{Read}
+use Rattle.wire.specs.Words.{halfAt, wordAt, wordsAt, wordsBytes, Below}
+use Rattle.wire.specs.Numbers.{rising}
 use Rattle.wire.specs.Laws.Words.{half-back, word-back, words-behind, words-back, words-length, byte-drop, half-drop, word-drop, words-drop}
 use Rattle.wire.specs.Refusal.{firstFailed}
-use Rattle.wire.specs.Frame.{maxCount, countOf, numbersOf, lengthFits, headFits, bodyFits, Content, readRefusal, contentOf, content, readStored, readView, numberRead, FrameReads, kindOf, bitChosen, kindSaid, bitSaid, chosenBy, saidBy, bitFits, chosenFits, saidFits, bitIn, roundFits, writable, headerBytes, frameBytes}
+use Rattle.wire.specs.Frame.{kindOf, bitChosen, kindSaid, bitSaid, chosenBy, saidBy, bitFits, maxCount, Content}
+use Rattle.wire.specs.Frame.{countOf, numbersOf, lengthFits, roundFits, headFits, bodyFits, readRefusal, contentOf, content}
+use Rattle.wire.specs.Frame.{readAs, numberRead, FrameReads, chosenFits, saidFits, writable, headerBytes, frameBytes}
 
-pub max-count-bound : (k : ℕ) → maxCount k ≤ maxNumbers
+max-count-bound : (k : ℕ) → maxCount k ≤ maxNumbers
 unfolding maxCount
 max-count-bound k = pick (eqb k 2) (eqb k 5)
   where
@@ -34,77 +34,55 @@ max-count-bound k = pick (eqb k 2) (eqb k 5)
     pick false true = omega arith
     pick false false = omega arith
 
+-- bytes with a header list as many numbers as two of its bytes say
+count-is : (s : List ℕ) → frameHeader ≤ length s → countOf s ≡ halfAt s countAt
+count-is s h = rw (le-leb frameHeader (length s) h)
+
 pub length-fits : (s : List ℕ) → lengthFits s ≡ true → length s ≡ frameHeader + numberWidth * countOf s
 unfolding lengthFits
-length-fits s h = eqb-true _ _ (and-eq-true-iff (leb frameHeader (length s)) _ .0 h .1)
-
--- bytes that pass the reader's tests have a header
-pub frame-header : (s : List ℕ) (t : ℕ) → (lengthFits s && headFits s t && bodyFits s t) ≡ true → frameHeader ≤ length s
-frame-header s t h =
-    let e = and-eq-true-iff (lengthFits s && headFits s t) (bodyFits s t) .0 h in
-    omega (arith, length-fits s (and-eq-true-iff (lengthFits s) (headFits s t) .0 (e .0) .0))
+length-fits s h = eqb-true _ _ h
 
 -- ---- reading
 
--- the three tests of the reader as one, for its number and for its content
-fits : List ℕ → ℕ → Bool
-fits s t = lengthFits s && headFits s t && bodyFits s t
-
-read-refusal-is : (s : List ℕ) (t : ℕ) → readRefusal s t ≡ cond (fits s t) 0 11
-unfolding readRefusal fits
-read-refusal-is s t = pick (lengthFits s) (headFits s t) (bodyFits s t)
+-- nothing is refused exactly if the three tests of the reader are passed
+pub none-refused : (s : List ℕ) (t : ℕ) → eqb (readRefusal s t) 0 ≡ (lengthFits s && headFits s t && bodyFits s t)
+unfolding readRefusal
+none-refused s t = pick (lengthFits s) (headFits s t) (bodyFits s t)
   where
-    pick : (a b d : Bool) → firstFailed ((a, 11) ∷ (b, 11) ∷ (d, 11) ∷ []) ≡ cond (a && b && d) 0 11
+    pick : (a b d : Bool) → eqb (firstFailed ((a, 11) ∷ (b, 11) ∷ (d, 11) ∷ [])) 0 ≡ (a && b && d)
     pick false b d = refl
     pick true false d = refl
     pick true true false = refl
     pick true true true = refl
 
-pub content-is : (s : List ℕ) (t : ℕ) → content s t ≡ cond (lengthFits s && headFits s t && bodyFits s t) (some (contentOf s t)) none
-unfolding content fits
-content-is s t = rw (read-refusal-is s t) (pick (fits s t))
-  where
-    pick : (a : Bool) → cond (eqb (cond a 0 11) 0) (some (contentOf s t)) none ≡ cond a (some (contentOf s t)) none
-    pick true = refl
-    pick false = refl
+content-is : (s : List ℕ) (t : ℕ) → content s t ≡ cond (lengthFits s && headFits s t && bodyFits s t) (some (contentOf s t)) none
+unfolding content
+content-is s t = rw (none-refused s t)
 
--- the list that is read, by whether the bytes fit
-abbrev listRead : List ℕ → ℕ → Bool → Numbers
-listRead s t f = (readStored (cond f (some (contentOf s t)) none)) .numbers
-
--- the numbers of bytes that are read lie one behind the other from the header's end on, and the bytes hold them all
-pub numbers-lie : (s : List ℕ) (t n : ℕ) → n ≡ (readStored (content s t)) .numbers .len
-    → ((readStored (content s t)) .numbers ≡ stored (wordsAt s frameHeader n)) × (0 < n → frameHeader + numberWidth * n ≤ length s)
-numbers-lie s t n e = rw (content-is s t) (pick (lengthFits s) (headFits s t) (bodyFits s t) refl (rw (content-is s t) at e))
-  where
-    pick : (a b d : Bool) → lengthFits s ≡ a → n ≡ (listRead s t (a && b && d)) .len
-        → (listRead s t (a && b && d) ≡ stored (wordsAt s frameHeader n)) × (0 < n → frameHeader + numberWidth * n ≤ length s)
-    pick false b d h e = (rw e, λ l. absurd (omega arith))
-    pick true false d h e = (rw e, λ l. absurd (omega arith))
-    pick true true false h e = (rw e, λ l. absurd (omega arith))
-    pick true true true h e =
-        let same : n ≡ countOf s = e ∙ words-length s frameHeader (countOf s) in
-        (rw same, λ l. omega (arith, same, length-fits s h))
+-- bytes that are not refused have a header
+pub frame-header : (s : List ℕ) (t : ℕ) → eqb (readRefusal s t) 0 ≡ true → frameHeader ≤ length s
+frame-header s t h =
+    let e = and-eq-true-iff (lengthFits s && headFits s t) (bodyFits s t) .0 (sym (none-refused s t) ∙ h) in
+    omega (arith, length-fits s (and-eq-true-iff (lengthFits s) (headFits s t) .0 (e .0) .0))
 
 -- the answer alone gives the whole promise
-pub frame-reads : (s : List ℕ) (t : ℕ) (r : FrameRead) → r ≡ readStored (content s t) → FrameReads s t r
-unfolding fits
-frame-reads s t r e =
-    record { number = rw (e, content-is s t, read-refusal-is s t) (pick (fits s t)); answer = e }
+pub frame-reads : (s : List ℕ) (t : ℕ) (r : Read) → r ≡ readAs (content s t) → FrameReads s t r
+unfolding content readRefusal
+frame-reads s t r e = record { number = ap numberRead e ∙ pick (lengthFits s) (headFits s t) (bodyFits s t); answer = e }
   where
-    pick : (a : Bool) → numberRead ((readStored (cond a (some (contentOf s t)) none)) .read) ≡ cond a 0 11
-    pick true = refl
-    pick false = refl
+    refusal : Bool → Bool → Bool → ℕ
+    refusal a b d = firstFailed ((a, 11) ∷ (b, 11) ∷ (d, 11) ∷ [])
 
-pub view-stored : (o : Option Content) → readView (readStored o) ≡ o
-view-stored none = refl
-view-stored (some c) =
-    let numbers = listed-stored (c .numbers) in
-    λ i. some (record { round = c .round; said = c .said; numbers = numbers i })
+    pick : (a b d : Bool) → numberRead (readAs (cond (eqb (refusal a b d) 0) (some (contentOf s t)) none)) ≡ refusal a b d
+    pick false b d = refl
+    pick true false d = refl
+    pick true true false = refl
+    pick true true true = refl
 
--- the reader's answer holds the content of the bytes
-pub read-view : (s : List ℕ) (t : ℕ) (r : FrameRead) → FrameReads s t r → readView r ≡ content s t
-read-view s t r f = ap readView (f .answer) ∙ view-stored (content s t)
+-- "Length 0 is a void frame"
+pub empty-void : (t : ℕ) → content [] t ≡ none
+unfolding content readRefusal lengthFits
+empty-void t = refl
 
 -- ---- writing
 
@@ -135,6 +113,10 @@ words-bytes-length (x ∷ l) = let ih = words-bytes-length l in omega arith
 pub frame-length : (c : Content) → length (frameBytes c) ≡ frameHeader + numberWidth * length (c .numbers)
 unfolding frameBytes
 frame-length c = let e = words-bytes-length (c .numbers) in omega arith
+
+-- "A frame is at most 264 bytes": one that is written
+pub written-short : (c : Content) → writable c ≡ true → length (frameBytes c) ≤ maxFrame
+written-short c h = omega (arith, frame-length c, writable-count c h)
 
 -- ---- what a frame says, by its kind and bit
 
@@ -177,7 +159,7 @@ said-fits (Opinion c) h = chosen-fits c h
 
 count-written : (c : Content) → countOf (frameBytes c) ≡ length (c .numbers)
 unfolding frameBytes
-count-written c = half-back (length (c .numbers))
+count-written c = count-is (frameBytes c) (omega (arith, frame-length c)) ∙ half-back (length (c .numbers))
 
 numbers-written : (c : Content) → numbersOf (frameBytes c) ≡ c .numbers
 unfolding frameBytes
@@ -190,7 +172,7 @@ length-written : (c : Content) → lengthFits (frameBytes c) ≡ true
 unfolding lengthFits
 length-written c =
     let n = frame-length c in
-    rw (le-leb frameHeader (length (frameBytes c)) (omega arith), eq-eqb (length (frameBytes c)) _ (n ∙ ap (λ (k : ℕ). frameHeader + numberWidth * k) (sym (count-written c))))
+    eq-eqb (length (frameBytes c)) _ (n ∙ ap (λ (k : ℕ). frameHeader + numberWidth * k) (sym (count-written c)))
 
 head-written : (c : Content) → Writable c → headFits (frameBytes c) (c .round) ≡ true
 unfolding headFits frameBytes
@@ -279,10 +261,9 @@ pub record ReadFrom (s : List ℕ) (t : ℕ) (c : Content) : Type 0 where
   pub content : contentOf s t ≡ c
 
 pub content-gives : (s : List ℕ) (t : ℕ) (c : Content) → content s t ≡ some c → ReadFrom s t c
-unfolding fits
-content-gives s t c e = pick (fits s t) refl (sym (content-is s t) ∙ e)
+content-gives s t c e = pick (lengthFits s && headFits s t && bodyFits s t) refl (sym (content-is s t) ∙ e)
   where
-    pick : (f : Bool) → fits s t ≡ f → cond f (some (contentOf s t)) none ≡ some c → ReadFrom s t c
+    pick : (f : Bool) → (lengthFits s && headFits s t && bodyFits s t) ≡ f → cond f (some (contentOf s t)) none ≡ some c → ReadFrom s t c
     pick true h q =
         let e₂ = and-eq-true-iff (lengthFits s && headFits s t) (bodyFits s t) .0 h in
         let e₁ = and-eq-true-iff (lengthFits s) (headFits s t) .0 (e₂ .0) in
@@ -295,14 +276,22 @@ read-kind s t c e =
     let k = kind-range t in
     ap (λ (d : Content). kindSaid (d .said)) (sym (content-gives s t c e .content)) ∙ said-kind (kindOf t) (getD s bitAt 0) (k .0) (k .1)
 
+-- the numbers of content that was read lie in the bytes, from the header's end to the last byte
+pub read-numbers : (s : List ℕ) (t : ℕ) (c : Content) → content s t ≡ some c
+    → (c .numbers ≡ numbersOf s) × (length s ≡ frameHeader + numberWidth * countOf s)
+read-numbers s t c e =
+    let g = content-gives s t c e in
+    (ap (λ (d : Content). d .numbers) (sym (g .content)), length-fits s (g .whole))
+
 -- a frame's bytes, field by field
 frame-split : (s : List ℕ) → Below 256 s → length s ≡ frameHeader + numberWidth * countOf s
     → headerBytes (wordAt s 0) (getD s kindAt 0) (getD s bitAt 0) (countOf s) ++ wordsBytes (numbersOf s) ≡ s
 frame-split s b e =
     let w = words-drop s b frameHeader (countOf s) (omega arith) in
+    let count = count-is s (omega arith) in
     let end : drop (frameHeader + numberWidth * countOf s) s ≡ [] = rw (← e) (drop-length s) in
     let numbers : wordsBytes (numbersOf s) ≡ drop frameHeader s = sym (append-nil (wordsBytes (numbersOf s))) ∙ rw end at w in
-    rw (numbers, half-drop s b countAt (omega arith), ← byte-drop s bitAt 6 refl (omega arith), ← byte-drop s kindAt 5 refl (omega arith))
+    rw (numbers, count, half-drop s b countAt (omega arith), ← byte-drop s bitAt 6 refl (omega arith), ← byte-drop s kindAt 5 refl (omega arith))
     (word-drop s b 0 (omega arith))
 
 -- what the second and the third test of the reader give
@@ -330,13 +319,6 @@ body-gives s t h =
     let e₁ = and-eq-true-iff (bitFits (kindOf t) (getD s bitAt 0)) (leb (countOf s) (maxCount (kindOf t))) .0 (e₂ .0) in
     record { bit = e₁ .0; count = leb-true _ _ (e₁ .1); rise = e₂ .1 }
 
--- byte 5 of bytes that are a frame is the bit that they say
-pub bit-read : (s : List ℕ) (t : ℕ) → (lengthFits s && headFits s t && bodyFits s t) ≡ true → getD s bitAt 0 ≡ bitIn (content s t)
-bit-read s t h =
-    let k = kind-range t in
-    let body = and-eq-true-iff (lengthFits s && headFits s t) (bodyFits s t) .0 h .1 in
-    rw (content-is s t, h) (sym (said-bit (kindOf t) (getD s bitAt 0) (k .0) (k .1) (body-gives s t body .bit)))
-
 pub writes-read : (s : List ℕ) (t : ℕ) (c : Content) → Below 256 s → content s t ≡ some c → frameBytes c ≡ s
 unfolding frameBytes
 writes-read s t c b e =
@@ -360,3 +342,9 @@ read-writable s t c e =
     let count : length (numbersOf s) ≤ maxCount (kindOf t) = rw (words-length s frameHeader (countOf s)) (d .count) in
     ap writable (sym (g .content))
     ∙ rw (h .round, kind, eq-eqb (kindOf t) (kindOf t) refl, said-allowed (kindOf t) (getD s bitAt 0) (k .0) (k .1) (d .bit), le-leb _ _ count, d .rise)
+
+-- "A frame is at most 264 bytes": one that is read
+pub read-short : (s : List ℕ) (t : ℕ) (c : Content) → content s t ≡ some c → length s ≤ maxFrame
+read-short s t c e =
+    let g = content-gives s t c e in
+    omega (arith, length-fits s (g .whole), body-gives s t (g .body) .count, max-count-bound (kindOf t))

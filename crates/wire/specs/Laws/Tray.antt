@@ -1,28 +1,24 @@
 -- Laws of trays.
 use Prim.Native.Nat.{ℕ, zero, suc, _+_, _-_, _≤_, _<_}
-use mathlib.Core.Bool.{Bool, true, false, cond, _&&_, and-eq-true-iff}
+use mathlib.Core.Bool.{true, _&&_, and-eq-true-iff}
 use mathlib.Core.List.{List}
-use mathlib.Core.Option.{some}
 use mathlib.Core.Path.{_≡_, refl, ap, subst}
 use mathlib.Core.Logic.{⊎-elim}
 use borrow.Author.Tests.{leb-true, ltb-true, eqb-true, lt-ltb, le-leb}
 use native.Mathlib.Nat.{eq-or-lt-of-le}
 use native.Mathlib.Omega.{arith}
 use lib.Dec.{leb, ltb, eqb}
-use lib.ListN.{length}
+use lib.ListN.{length, getD}
 use Rattle.wire.specs.Limits.{trayHeader, entriesAt, zeroAt, maxTray, maxEntries}
+use Rattle.wire.specs.Laws.Words.{half-below}
 use Rattle.wire.specs.Words.{Below, halfAt}
-use Rattle.wire.specs.Tray.{entryCount, entryAt, offsetOf, lengthOf, inDirectory, sender, place, placeFrom, firstPlace, chained, wellFormed, part, bytesAt, entriesFrom, entries, firstBytes}
+use Rattle.wire.specs.Tray.{Entry, entryCount, entryAt, offsetOf, lengthOf, inDirectory, sender, chained, wellFormed, part, entriesFrom, entries}
 
 -- ---- the directory
 
 pub entry-count-below : (s : List ℕ) → Below 256 s → entryCount s < 65536
 unfolding entryCount
-entry-count-below s b = pick (leb trayHeader (length s))
-  where
-    pick : (t : Bool) → cond t (halfAt s entriesAt) 0 < 65536
-    pick true = omega (arith, b 4, b 5)
-    pick false = omega arith
+entry-count-below s b = half-below s b entriesAt (leb trayHeader (length s))
 
 -- what "in the directory" gives
 pub record InDirectory (s : List ℕ) (i : ℕ) : Type 0 where
@@ -36,9 +32,6 @@ in-directory-gives s i h =
     record { counted = ltb-true _ _ (e .0); whole = leb-true _ _ (e .1) }
 
 -- one step along the directory, as a loop over it takes it
-pub place-step : (s : List ℕ) (x n i : ℕ) → i < n → placeFrom s x (n - i) i ≡ cond (eqb (sender s i) x) (place s i) (placeFrom s x (n - (i + 1)) (i + 1))
-place-step s x n i h = let e : n - i ≡ suc (n - (i + 1)) = omega arith in rw e
-
 pub chained-step : (s : List ℕ) (n i at : ℕ) → i < n → chained s (n - i) i at ≡ (eqb (offsetOf s i) at && chained s (n - (i + 1)) (i + 1) (at + lengthOf s i))
 chained-step s n i at h = let e : n - i ≡ suc (n - (i + 1)) = omega arith in rw e
 
@@ -94,10 +87,28 @@ chained-within s (suc n) i at j h l u =
     (eq-or-lt-of-le l)
 
 -- each entry's part lies in the tray, behind the directory
-pub part-inside : (s : List ℕ) → wellFormed s ≡ true → (i : ℕ) → i < entryCount s → (entryAt (entryCount s) ≤ offsetOf s i) × (offsetOf s i + lengthOf s i ≤ length s)
+pub part-inside : (s : List ℕ) → wellFormed s ≡ true → (i : ℕ) → i < entryCount s
+    → (entryAt (entryCount s) ≤ offsetOf s i) × (offsetOf s i + lengthOf s i ≤ length s)
 part-inside s h i l =
     let w = chained-within s (entryCount s) 0 (entryAt (entryCount s)) i (well-formed-gives s h .frames) (omega arith) (omega arith) in
     (w .begins, w .ends)
+
+-- of two frames of a chain, the earlier entry's ends no later than the other's begins
+chained-apart : (s : List ℕ) (n k at i j : ℕ) → chained s n k at ≡ true → k ≤ i → i < j → j < k + n → offsetOf s i + lengthOf s i ≤ offsetOf s j
+chained-apart s zero k at i j h a l u = absurd (omega arith)
+chained-apart s (suc n) k at i j h a l u =
+    let e = and-eq-true-iff (eqb (offsetOf s k) at) (chained s n (k + 1) (at + lengthOf s k)) .0 h in
+    let o : offsetOf s k ≡ at = eqb-true (offsetOf s k) at (e .0) in
+    ⊎-elim
+    (λ (q : k ≡ i).
+    let w = chained-within s n (k + 1) (at + lengthOf s k) j (e .1) (omega arith) (omega arith) in
+    subst (λ (m : ℕ). offsetOf s m + lengthOf s m ≤ offsetOf s j) q (omega (arith, w .begins)))
+    (λ (q : k < i). chained-apart s n (k + 1) (at + lengthOf s k) i j (e .1) (omega arith) l (omega arith))
+    (eq-or-lt-of-le a)
+
+-- so no two entries' parts share a byte
+pub parts-apart : (s : List ℕ) → wellFormed s ≡ true → (i j : ℕ) → i < j → j < entryCount s → offsetOf s i + lengthOf s i ≤ offsetOf s j
+parts-apart s h i j l u = chained-apart s (entryCount s) 0 (entryAt (entryCount s)) i j (well-formed-gives s h .frames) (omega arith) l (omega arith)
 
 pub directory-holds : (s : List ℕ) → wellFormed s ≡ true → (i : ℕ) → i < entryCount s → inDirectory s i ≡ true
 unfolding inDirectory
@@ -115,17 +126,13 @@ pub entries-length : (s : List ℕ) → length (entries s) ≡ entryCount s
 unfolding entries
 entries-length s = entries-from-length s (entryCount s) 0
 
--- the place that the directory gives for a sender is that of its first entry in the list
-first-from : (s : List ℕ) (x : ℕ) → wellFormed s ≡ true → (n i : ℕ) → i + n ≤ entryCount s → firstBytes x (entriesFrom s n i) ≡ bytesAt s (placeFrom s x n i)
-unfolding place
-first-from s x h zero i l = refl
-first-from s x h (suc n) i l = pick (eqb (sender s i) x) (first-from s x h n (i + 1) (omega arith))
-  where
-    pick : (t : Bool) → firstBytes x (entriesFrom s n (i + 1)) ≡ bytesAt s (placeFrom s x n (i + 1))
-        → cond t (some (part s (offsetOf s i) (lengthOf s i))) (firstBytes x (entriesFrom s n (i + 1))) ≡ bytesAt s (cond t (place s i) (placeFrom s x n (i + 1)))
-    pick true ih = rw (directory-holds s h i (omega arith))
-    pick false ih = ih
+entries-from-at : (s : List ℕ) (n k j : ℕ) (d : Entry) → j < n
+    → getD (entriesFrom s n k) j d ≡ record { sender = sender s (k + j); bytes = part s (offsetOf s (k + j)) (lengthOf s (k + j)) }
+entries-from-at s zero k j d l = absurd (omega arith)
+entries-from-at s (suc n) k zero d l = let e : k + 0 ≡ k = omega arith in rw e
+entries-from-at s (suc n) k (suc j) d l = let e : k + suc j ≡ k + 1 + j = omega arith in rw e (entries-from-at s n (k + 1) j d (omega arith))
 
-pub first-bytes : (s : List ℕ) (x : ℕ) → wellFormed s ≡ true → firstBytes x (entries s) ≡ bytesAt s (firstPlace s x)
-unfolding entries firstPlace
-first-bytes s x h = first-from s x h (entryCount s) 0 (omega arith)
+pub entry-at : (s : List ℕ) (i : ℕ) (d : Entry) → i < entryCount s
+    → getD (entries s) i d ≡ record { sender = sender s i; bytes = part s (offsetOf s i) (lengthOf s i) }
+unfolding entries
+entry-at s i d l = let e : 0 + i ≡ i = omega arith in rw e at (entries-from-at s (entryCount s) 0 i d l)

@@ -1,5 +1,6 @@
 -- Laws of big-endian numbers: what is written reads back, and what reads is written as the same bytes.
 use Prim.Native.Nat.{ℕ, zero, suc, _+_, _*_, _-_, _/_, _%_, _≤_, _<_}
+use mathlib.Core.Bool.{Bool, true, false, cond}
 use mathlib.Core.List.{List, [], _∷_, _++_, append-assoc}
 use mathlib.Core.Path.{_≡_, refl, ap}
 use native.Mathlib.Nat.{add-zero, add-assoc}
@@ -26,6 +27,11 @@ pub words-below : (s : List ℕ) → Below 256 s → (at n : ℕ) → Below 4294
 words-below s b at zero i = omega arith
 words-below s b at (suc n) zero = omega (arith, b at, b (at + 1), b (at + 2), b (at + 3))
 words-below s b at (suc n) (suc i) = words-below s b (at + 4) n i
+
+-- a number of two bytes, or 0 where they are missing
+pub half-below : (s : List ℕ) → Below 256 s → (at : ℕ) (there : Bool) → cond there (halfAt s at) 0 < 65536
+half-below s b at true = omega (arith, b at, b (at + 1))
+half-below s b at false = omega arith
 
 -- ---- written, then read
 

@@ -8,7 +8,7 @@ use borrow.Author.Needs.{needs}
 use denote.Ref.{now}
 use lib.ListN.{getD}
 use Rattle.wire.specs.Tray.{place, bytesAt}
-use Rattle.controller.specs.Storage.{Alike}
+use Rattle.controller.specs.Work.Alike.{Alike}
 use Rattle.controller.proofs.alike.alike.Statement.{statement}
 use Rattle.controller.proofs.alike.alike.Tie as tie
 
@@ -22,8 +22,18 @@ Inv-loop own tray heard len firsts j i₀ i =
 abbrev μ-loop : tie.MeasureT-loop
 μ-loop own tray heard len firsts j i₀ i = len - i
 
+-- what was given; the turn in which two entries are compared
+abbrev given : tie.After-shared-slice-known4 Inv-loop μ-loop → tie.Start Inv-loop μ-loop
+given c = c .before .before .before .before
+
+abbrev turn : tie.Else2 Inv-loop μ-loop → tie.At-loop Inv-loop μ-loop
+turn c = c .before .before .before
+
+abbrev compared : tie.After-same-entry Inv-loop μ-loop → tie.Else2 Inv-loop μ-loop
+compared c = c .before .before .before
+
 abbrev outside : tie.At-loop Inv-loop μ-loop → tie.Start Inv-loop μ-loop
-outside c = c .before .before .before .before .before .before
+outside c = given (c .before .before)
 
 -- the places passed so far are the answer
 so-far : (c : tie.At-loop Inv-loop μ-loop)
@@ -44,13 +54,13 @@ shared-slice-read-if1 : tie.Need-shared-slice-read-if1 Inv-loop μ-loop
 shared-slice-read-if1 c = search needs
 
 returns : tie.Need-returns Inv-loop μ-loop
-returns c = record { some = omega arith; inside = omega (arith, c .before .before .before .before .before .pre .2); same = λ k l u. absurd (omega arith) }
+returns c = record { some = omega arith; inside = omega (arith, given (c .before) .pre .2); same = λ k l u. absurd (omega arith) }
 
 add-i : tie.Need-add-i Inv-loop μ-loop
 add-i c = search needs
 
 loop-holds : tie.Need-loop-holds Inv-loop μ-loop
-loop-holds c = (omega arith, omega (arith, c .before .before .before .before .before .pre .2), λ k l u. absurd (omega arith))
+loop-holds c = (omega arith, omega (arith, given (c .before) .pre .2), λ k l u. absurd (omega arith))
 
 mul-if2 : tie.Need-mul-if2 Inv-loop μ-loop
 mul-if2 c = search needs
@@ -87,8 +97,8 @@ loop-less c = search needs
 
 loop-again : tie.Need-loop-again Inv-loop μ-loop
 loop-again c =
-    let v = c .before .before .before .before .before .before .before .loop in
-    let here = c .before .before .before .before .if2 .left in
+    let v = turn (compared (c .before)) .loop in
+    let here = compared (c .before) .if2 .left in
     let same = c .before .same-entry .ensures (c .if3 .taken) in (
       search needs,
       search needs,
@@ -99,7 +109,7 @@ sub-result-2 : tie.Need-sub-result-2 Inv-loop μ-loop
 sub-result-2 c = search needs
 
 returns-3 : tie.Need-returns-3 Inv-loop μ-loop
-returns-3 c = so-far (c .before .before .before .before .before .before .before)
+returns-3 c = so-far (turn (compared (c .before)))
 
 sub-result-3 : tie.Need-sub-result-3 Inv-loop μ-loop
 sub-result-3 c = search needs

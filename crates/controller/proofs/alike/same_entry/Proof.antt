@@ -1,17 +1,10 @@
 -- `controller::alike::same_entry` meets its contract: the bytes at the first entry's place, if it is found, are compared with the second's.
-use Prim.Native.Nat.{ℕ}
 use mathlib.Core.Bool.{false≢true}
-use mathlib.Core.List.{List}
-use mathlib.Core.Option.{Option, some}
-use mathlib.Core.Path.{_≡_, sym, _∙_}
+use mathlib.Core.Path.{sym, _∙_}
 use borrow.Author.Needs.{needs}
-use Rattle.wire.specs.Tray.{place, part, bytesAt}
-use Rattle.wire.specs.declared.tray.Found.the-variants.{At}
+use Rattle.controller.proofs.Entries.{entry-bytes}
 use Rattle.controller.proofs.alike.same_entry.Statement.{statement}
 use Rattle.controller.proofs.alike.same_entry.Tie as tie
-
-found : (b : List ℕ) (i o n : ℕ) (s : List ℕ) (other : Option (List ℕ)) → place b i ≡ At o n → s ≡ part b o n → some s ≡ other → bytesAt b (place b i) ≡ other
-found b i o n s other p q e = rw (p, ← q) e
 
 entry-place-requires : tie.Need-entry-place-requires
 entry-place-requires c κs = search needs
@@ -29,7 +22,10 @@ enum-told : tie.Need-enum-told
 enum-told c = search needs
 
 returns : tie.Need-returns
-returns c = λ e. found _ _ _ _ _ _ (sym (c .before .before .before .before .before .entry-place .ensures) ∙ c .before .before .before .found .given .1) (c .before .part-of .ensures) (c .same-part .ensures e)
+returns c = λ e.
+    let known = c .before .before .before in
+    let at = sym (known .before .before .entry-place .ensures) ∙ known .found .given .1 in
+    entry-bytes _ _ _ _ _ at (c .before .part-of .ensures) ∙ c .same-part .ensures e
 
 returns-2 : tie.Need-returns-2
 returns-2 c = λ e. absurd (false≢true e)

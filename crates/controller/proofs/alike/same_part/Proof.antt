@@ -3,15 +3,11 @@ use Prim.Native.Nat.{ℕ}
 use mathlib.Core.Bool.{false≢true}
 use mathlib.Core.List.{List}
 use mathlib.Core.Option.{some}
-use mathlib.Core.Path.{_≡_, sym, ap, _∙_}
+use mathlib.Core.Path.{sym, ap, _∙_}
 use borrow.Author.Needs.{needs}
-use Rattle.wire.specs.Tray.{place, part, bytesAt}
-use Rattle.wire.specs.declared.tray.Found.the-variants.{At}
+use Rattle.controller.proofs.Entries.{entry-bytes}
 use Rattle.controller.proofs.alike.same_part.Statement.{statement}
 use Rattle.controller.proofs.alike.same_part.Tie as tie
-
-found : (b : List ℕ) (i o n : ℕ) (s bytes : List ℕ) → place b i ≡ At o n → s ≡ part b o n → bytes ≡ s → some bytes ≡ bytesAt b (place b i)
-found b i o n s bytes p q e = rw p (ap (λ (l : List ℕ). some l) (e ∙ q))
 
 entry-place-requires : tie.Need-entry-place-requires
 entry-place-requires c κs = search needs
@@ -29,7 +25,10 @@ enum-told : tie.Need-enum-told
 enum-told c = search needs
 
 returns : tie.Need-returns
-returns c = λ e. found _ _ _ _ _ _ (sym (c .before .before .before .before .before .entry-place .ensures) ∙ c .before .before .before .found .given .1) (c .before .part-of .ensures) (c .same-bytes .ensures e)
+returns c = λ e.
+    let known = c .before .before .before in
+    let at = sym (known .before .before .entry-place .ensures) ∙ known .found .given .1 in
+    ap (λ (l : List ℕ). some l) (c .same-bytes .ensures e) ∙ sym (entry-bytes _ _ _ _ _ at (c .before .part-of .ensures))
 
 returns-2 : tie.Need-returns-2
 returns-2 c = λ e. absurd (false≢true e)

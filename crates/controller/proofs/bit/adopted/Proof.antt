@@ -1,7 +1,7 @@
 -- `controller::bit::adopted` meets its contract: each branch gives the tests of `adoptedFrom` their values.
 use borrow.Author.Needs.{needs}
 use borrow.Author.Tests.{le-leb, lt-leb, eq-eqb, ne-eqb}
-use Rattle.controller.specs.Storage.{adoptedFrom}
+use Rattle.controller.specs.Work.Bit.{adoptedFrom}
 use Rattle.controller.specs.Thirds.{third}
 use Rattle.controller.proofs.bit.adopted.Statement.{statement}
 use Rattle.controller.proofs.bit.adopted.Tie as tie

@@ -1,34 +1,42 @@
--- `controller::bit::king_opinion` meets its contract: a king that is heard stands at its place, and its bit is read there; of one that is not heard nothing is received.
-use Prim.Native.Nat.{ℕ, _≤_, _<_}
+-- `controller::bit::king_opinion` meets its contract: a king that is heard stands at its place, and its bit is read there;
+-- of one that is not heard nothing is received.
+use Prim.Native.Nat.{ℕ, _<_}
+use mathlib.Core.Bool.{cond}
 use mathlib.Core.List.{List}
 use mathlib.Core.Path.{_≡_, sym, ap, _∙_}
 use native.Mathlib.Omega.{arith}
 use borrow.Author.Needs.{needs}
 use borrow.Author.Tests.{le-leb, lt-leb}
 use denote.Ref.{now}
+use lib.Dec.{leb}
 use lib.ListN.{getD}
 use Rattle.controller.specs.Bit.{kingOpinion}
-use Rattle.controller.specs.Laws.Ready.{list-place, ready-opinion, ready-silent}
+use Rattle.controller.specs.Fields.{stateOf}
+use Rattle.controller.specs.Laws.Work.Ready.{list-place, ready-opinion, ready-silent}
 use Rattle.controller.specs.Laws.State.{sound-list-gives}
 use Rattle.controller.specs.Received.{opinionIn}
 use Rattle.controller.specs.State.{view}
-use Rattle.controller.specs.Storage.{Ready, bitUnder}
+use Rattle.controller.specs.Work.Received.{receivedBy, Ready, bitUnder}
 use Rattle.controller.specs.declared.state.State.{State}
 use Rattle.wire.specs.Frame.{kindOf}
 use Rattle.wire.specs.Limits.{maxNumbers}
-use Rattle.wire.specs.Tray.{entries}
 use Rattle.wire.specs.declared.frame.Numbers.{Numbers}
 use Rattle.controller.proofs.bit.king_opinion.Statement.{statement}
 use Rattle.controller.proofs.bit.king_opinion.Tie as tie
 
 -- the king stands at place j of those heard, and d is the bit that is read there
-module _ {s : State} {b f : List ℕ} (ready : Ready s b f) (turn : kindOf (s .round) ≡ 5) (j d : ℕ) (inside : j < s .heard .len) (there : getD (s .heard .at) j 0 ≡ s .king)
+module _ {s : State} {b f : List ℕ} (ready : Ready s b f) (turn : kindOf (s .round) ≡ 5) (j d : ℕ)
+    (inside : j < s .heard .len) (there : getD (s .heard .at) j 0 ≡ s .king)
     (read : d ≡ bitUnder (s .own) (s .round) (s .said) b (s .king) (getD f j 0)) where
-  said : d ≤ 1 → d ≡ kingOpinion (view s) (entries b)
-  said l = sym (ready-opinion ready turn j (s .king) inside there ∙ rw (← read, le-leb d 1 l))
+  opinion-is : kingOpinion (view s) (receivedBy s b) ≡ cond (leb d 1) d 2
+  opinion-is = ready-opinion ready turn j (s .king) inside there ∙ rw (← read)
 
-  silent : 1 < d → 2 ≡ kingOpinion (view s) (entries b)
-  silent l = sym (ready-opinion ready turn j (s .king) inside there ∙ rw (← read, lt-leb d 1 l))
+-- what was given, and that the king is heard
+abbrev given : tie.After-has-at → tie.Start
+given c = c .before .before .before
+
+abbrev heard : tie.After-received-bit → tie.Then1
+heard c = c .before .before
 
 -- those heard
 abbrev list : tie.Start → Numbers
@@ -36,16 +44,18 @@ list c = record { len = c .args .fields .heard; at = now (c .args .heard) }
 
 -- the king's place among them
 found : (c : tie.Then1)
-    → (c .before .before .place-in .result < c .before .before .before .before .args .fields .heard)
-    × (getD (now (c .before .before .before .before .args .heard)) (c .before .before .place-in .result) 0 ≡ c .before .before .before .before .args .fields .king)
+    → let at = c .before .before in
+    let a = at .before .before .args in
+    (at .place-in .result < a .fields .heard) × (getD (now (a .heard)) (at .place-in .result) 0 ≡ a .fields .king)
 found c =
-    let start = c .before .before .before .before in
-    rw (c .before .before .place-in .ensures) (list-place (list start) (start .pre) (start .args .fields .king) (sym (c .before .has-at .ensures) ∙ c .if1 .taken))
+    let at = c .before .before in
+    let start = at .before .before in
+    rw (at .place-in .ensures) (list-place (list start) (start .pre) (start .args .fields .king) (sym (c .before .has-at .ensures) ∙ c .if1 .taken))
 
 -- it is one of 64
 bounded : (c : tie.Then1) → c .before .before .place-in .result < maxNumbers
 bounded c =
-    let start = c .before .before .before .before in
+    let start = given (c .before) in
     let tests = sound-list-gives (list start) (start .pre) in
     omega (arith, found c .0, tests .used, tests .list .short)
 
@@ -64,18 +74,26 @@ element-copy-out-received-bit c = omega (arith, bounded c)
 received-bit-requires : tie.Need-received-bit-requires
 received-bit-requires c κs = search needs
 
+-- the bit that is read tells the opinion
+told : (c : tie.After-received-bit) (x e : List ℕ)
+    → let a = given (heard c .before) .args in
+    let s = stateOf (a .fields) (now (a .heard)) x e in
+    Ready s (now (a .tray)) (now (a .firsts)) → kindOf (s .round) ≡ 5
+    → kingOpinion (view s) (receivedBy s (now (a .tray))) ≡ cond (leb (c .received-bit .result) 1) (c .received-bit .result) 2
+told c x e ready turn =
+    let at = heard c in
+    let place = found at in
+    opinion-is ready turn (at .before .before .place-in .result) _ (place .0) (place .1) (c .received-bit .ensures)
+
 returns : tie.Need-returns
-returns c x e ready turn =
-    let place = found (c .before .before .before) in
-    said ready turn (c .before .before .before .before .before .place-in .result) _ (place .0) (place .1) (c .before .received-bit .ensures) (c .if2 .taken)
+returns c x e ready turn = sym (told (c .before) x e ready turn ∙ rw (le-leb _ 1 (c .if2 .taken)))
 
 returns-2 : tie.Need-returns-2
-returns-2 c x e ready turn =
-    let place = found (c .before .before .before) in
-    silent ready turn (c .before .before .before .before .before .place-in .result) _ (place .0) (place .1) (c .before .received-bit .ensures) (c .if2 .left)
+returns-2 c x e ready turn = sym (told (c .before) x e ready turn ∙ rw (lt-leb _ 1 (c .if2 .left)))
 
 returns-3 : tie.Need-returns-3
-returns-3 c x e ready turn = sym (ap opinionIn (ready-silent ready (c .before .before .before .before .args .fields .king) (sym (c .before .has-at .ensures) ∙ c .if1 .left)))
+returns-3 c x e ready turn =
+    sym (ap opinionIn (ready-silent ready (given (c .before) .args .fields .king) (sym (c .before .has-at .ensures) ∙ c .if1 .left)))
 
 pub king-opinion-spec : {M : Type 1} → statement M
 king-opinion-spec =

@@ -1,7 +1,7 @@
 -- `controller::bit::proposal` meets its contract: each branch gives the tests of `proposedFrom` their values.
 use borrow.Author.Needs.{needs}
 use borrow.Author.Tests.{le-leb, lt-leb}
-use Rattle.controller.specs.Storage.{proposedFrom}
+use Rattle.controller.specs.Work.Bit.{proposedFrom}
 use Rattle.controller.specs.Thirds.{twoThirds}
 use Rattle.controller.proofs.bit.proposal.Statement.{statement}
 use Rattle.controller.proofs.bit.proposal.Tie as tie

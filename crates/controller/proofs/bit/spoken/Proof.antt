@@ -9,33 +9,34 @@ use borrow.Author.Needs.{needs}
 use lib.Dec.{eqb}
 use lib.ListN.{length}
 use Rattle.controller.specs.Bit.{proposalThird, proposalTwoThirds, bitAdopted, strongAfter, opinion}
+use Rattle.controller.specs.Fields.{stateOf}
 use Rattle.controller.specs.Laws.Rules.{bit-adopted-bound}
-use Rattle.controller.specs.Received.{heardAfter, says, count}
-use Rattle.controller.specs.State.{View, undecided}
-use Rattle.controller.specs.Storage.{CountsBits, adoptedFrom, TurnsBit}
+use Rattle.controller.specs.Received.{Received, says, count}
+use Rattle.controller.specs.State.{View, view, undecided}
+use Rattle.controller.specs.Work.Received.{CountsBits}
+use Rattle.controller.specs.Work.Bit.{adoptedFrom, TurnsBit}
 use Rattle.controller.specs.Thirds.{twoThirds}
 use Rattle.controller.specs.declared.received.Counts.{Counts}
-use Rattle.wire.specs.Tray.{Entry}
 use Rattle.controller.proofs.bit.spoken.Statement.{statement}
 use Rattle.controller.proofs.bit.spoken.Tie as tie
 
-module _ {v : View} {es : List Entry} {n : Counts} {h b d : ℕ} (counts : CountsBits 4 v es n) (heard : h ≡ length (heardAfter v es)) (bit : b ≡ adoptedFrom v (n .zeros) (n .ones) h)
-    (said : d ≡ cond (undecided v && eqb (v .king) (v .own)) b 2) where
-  adopted-is : b ≡ bitAdopted v es
+module _ (v : View) {m : Received} {n : Counts} {h b d : ℕ} (counts : CountsBits 4 m n) (heard : h ≡ length (m .heard))
+    (bit : b ≡ adoptedFrom v (n .zeros) (n .ones) h) (said : d ≡ cond (undecided v && eqb (v .rotor .king) (v .own)) b 2) where
+  adopted-is : b ≡ bitAdopted v m
   unfolding adoptedFrom bitAdopted proposalThird
   adopted-is = bit ∙ rw (heard, counts .zeros, counts .ones)
 
   -- s is the strong of the bit a, with m proposals
-  turned : (a m s : ℕ) → b ≡ a → m ≡ count (says 4 a) v es → s ≡ cond (twoThirds m h) 1 0 → TurnsBit v es (record { bit = b; strong = s; said = d })
+  turned : (a k s : ℕ) → b ≡ a → k ≡ count (says 4 a) m → s ≡ cond (twoThirds k h) 1 0 → TurnsBit v m (record { bit = b; strong = s; said = d })
   unfolding strongAfter proposalTwoThirds opinion
-  turned a m s e counted strong =
+  turned a k s e counted strong =
       record { bit = adopted-is; strong = strong ∙ rw (← adopted-is, e, counted, heard); said = said ∙ rw (← adopted-is) }
 
-  turned-zero : (s : ℕ) → b ≡ 0 → s ≡ cond (twoThirds (n .zeros) h) 1 0 → TurnsBit v es (record { bit = b; strong = s; said = d })
+  turned-zero : (s : ℕ) → b ≡ 0 → s ≡ cond (twoThirds (n .zeros) h) 1 0 → TurnsBit v m (record { bit = b; strong = s; said = d })
   turned-zero s e strong = turned 0 (n .zeros) s e (counts .zeros) strong
 
-  turned-one : (s : ℕ) → v .bit ≤ 1 → b ≢ 0 → s ≡ cond (twoThirds (n .ones) h) 1 0 → TurnsBit v es (record { bit = b; strong = s; said = d })
-  turned-one s own e strong = turned 1 (n .ones) s (omega (arith, adopted-is, bit-adopted-bound v es own)) (counts .ones) strong
+  turned-one : (s : ℕ) → v .bit .own ≤ 1 → b ≢ 0 → s ≡ cond (twoThirds (n .ones) h) 1 0 → TurnsBit v m (record { bit = b; strong = s; said = d })
+  turned-one s own e strong = turned 1 (n .ones) s (omega (arith, adopted-is, bit-adopted-bound v m own)) (counts .ones) strong
 
 adopted-requires : tie.Need-adopted-requires
 adopted-requires c κs = (c .pre .0, c .pre .1)
@@ -52,13 +53,17 @@ strong-of-requires-2 c κs = let pre = c .before .before .before .pre in (pre .1
 -- `adoptedFrom` looks at no list, so the view of the bare fields does for it
 returns : tie.Need-returns
 unfolding adoptedFrom
-returns c l x e es counts heard =
-    turned-zero counts heard (c .before .before .before .adopted .ensures) (c .before .before .opinion-of .ensures) _ (c .before .if1 .taken) (c .strong-of .ensures)
+returns c l x e m counts heard =
+    let call = c .before .before .before in
+    turned-zero (view (stateOf (call .before .args .fields) l x e)) counts heard (call .adopted .ensures) (c .before .before .opinion-of .ensures) _
+    (c .before .if1 .taken) (c .strong-of .ensures)
 
 returns-2 : tie.Need-returns-2
 unfolding adoptedFrom
-returns-2 c l x e es counts heard =
-    turned-one counts heard (c .before .before .before .adopted .ensures) (c .before .before .opinion-of .ensures) _ (c .before .before .before .before .pre .3) (c .before .if1 .left) (c .strong-of2 .ensures)
+returns-2 c l x e m counts heard =
+    let call = c .before .before .before in
+    turned-one (view (stateOf (call .before .args .fields) l x e)) counts heard (call .adopted .ensures) (c .before .before .opinion-of .ensures) _
+    (call .before .pre .3) (c .before .if1 .left) (c .strong-of2 .ensures)
 
 pub spoken-spec : {M : Type 1} → statement M
 spoken-spec =

@@ -15,7 +15,7 @@ use Rattle.controller.specs.Laws.Received.{frame-writable}
 use Rattle.controller.specs.Laws.State.{sound-gives}
 use Rattle.controller.specs.Received.{frameOf}
 use Rattle.controller.specs.State.{view, sound}
-use Rattle.controller.specs.Storage.{Sends}
+use Rattle.controller.specs.Work.Calls.{Sends}
 use Rattle.controller.specs.declared.state.State.{State}
 use Rattle.wire.specs.Frame.{Content, kindOf, saidBy, maxCount, writeRefusal, FrameWrites}
 use Rattle.wire.specs.Limits.{maxFrame}
@@ -40,7 +40,8 @@ module _ (s : State) where
       pick true = refl
       pick false = refl
 
-  writes : sound s ≡ true → (b : List ℕ) → maxFrame ≤ length b → (w : Written) (a : List ℕ) → FrameWrites (frameOf (view s)) b w a → Sends (view s) b (w .length) a
+  writes : sound s ≡ true → (b : List ℕ) → maxFrame ≤ length b → (w : Written) (a : List ℕ)
+      → FrameWrites (frameOf (view s)) b w a → Sends (view s) b (w .length) a
   unfolding writeRefusal
   writes h b room w a f =
       let allowed = frame-writable (view s) (sound-gives s h) in
@@ -55,9 +56,19 @@ fits-places k m n l all e = rw e (pick (ltb 0 (maxCount k)))
     pick true = all
     pick false = omega arith
 
+-- what was lent; what is asked of `write_frame`, and what it has written
+abbrev lent : tie.After-kind-of → tie.Start
+lent c = c .before .before .before
+
+abbrev asked : tie.After-write-frame → tie.After-sent-count
+asked c = c .before .before .before
+
+abbrev written : tie.After-slice-known2 → tie.After-write-frame
+written c = c .before .before
+
 -- what was given
 abbrev given : tie.After-sent-count → tie.Start
-given c = c .before .before .before .before .before
+given c = lent (c .before .before)
 
 kind-of-requires : tie.Need-kind-of-requires
 kind-of-requires c κs = search needs
@@ -85,11 +96,11 @@ same-length c = search needs
 
 returns : tie.Need-returns
 returns c h d sound =
-    let counted = c .before .before .before .before .before in
+    let counted = asked (written c) in
     let start = given counted in
     let s = stateOf (start .args .fields) h d (now (start .args .echoes)) in
     let content = content-is s _ _ _ (counted .before .before .kind-of .ensures) (counted .sent-count .ensures) (counted .before .said-by .ensures) in
-    writes s sound (now (start .args .out)) (start .pre .0) (c .before .before .write-frame .result) _ (rw content at (c .before .before .write-frame .ensures))
+    writes s sound (now (start .args .out)) (start .pre .0) (written c .write-frame .result) _ (rw content at (written c .write-frame .ensures))
 
 pub send-spec : {M : Type 1} → statement M
 send-spec =

@@ -12,6 +12,10 @@ use Rattle.controller.proofs.calls.tray.Tie as tie
 of-parts : {s t : State} (b before : List ℕ) (r : Answer) (after : List ℕ) → s ≡ t → TrayPromise s b before r after → TrayPromise t b before r after
 of-parts b before r after e p = rw e at p
 
+-- what is asked of `work`
+abbrev asked : tie.After-work-arg4 → tie.After-work-arg
+asked c = c .before .before .before
+
 fields-of-requires : tie.Need-fields-of-requires
 fields-of-requires c κs = search needs
 
@@ -24,7 +28,7 @@ same-length c = search needs
 returns : tie.Need-returns
 returns c =
     let worked = c .before .before .before in
-    of-parts _ _ _ _ (worked .before .before .before .before .before .fields-of .ensures) (worked .work .ensures)
+    of-parts _ _ _ _ (asked (worked .before) .before .fields-of .ensures) (worked .work .ensures)
 
 pub tray-spec : {M : Type 1} → statement M
 tray-spec = tie.close (tie.spec fields-of-requires work-requires same-length returns)

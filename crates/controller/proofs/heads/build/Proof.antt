@@ -7,8 +7,8 @@ use native.Mathlib.Omega.{arith}
 use borrow.Author.Needs.{needs}
 use lib.ListN.{length, getD, set, length-set}
 use lib.Seq.{getD-set-other}
-use Rattle.controller.specs.Walk.{lesserOf}
-use Rattle.controller.specs.Laws.Tree.{Node, node-set, node-made}
+use Rattle.controller.specs.Work.Heads.{lesserOf}
+use Rattle.controller.specs.Laws.Work.Tree.{Node, node-set, node-made}
 use Rattle.controller.proofs.heads.build.Statement.{statement}
 use Rattle.controller.proofs.heads.build.Tie as tie
 
@@ -42,6 +42,10 @@ Inv-loop tree₀ len i₀ tree i = Building tree₀ len tree i
 
 abbrev μ-loop : tie.MeasureT-loop
 μ-loop tree₀ len i₀ tree i = i
+
+-- a turn
+abbrev turn : tie.After-slice-known2 Inv-loop μ-loop → tie.At-loop Inv-loop μ-loop
+turn c = c .before .before
 
 loop-holds : tie.Need-loop-holds Inv-loop μ-loop
 loop-holds c =
@@ -91,7 +95,7 @@ loop-less c = search needs
 
 loop-again : tie.Need-loop-again Inv-loop μ-loop
 loop-again c =
-    let at = c .before .before .before .before in
+    let at = turn (c .before .before) in
     let given = at .before .before in
     builds (at .loop .inv) (at .loop .i - 1) (c .lesser .result) (given .pre .1) (c .before .before .before .loop-test .taken) refl (c .lesser .ensures)
 

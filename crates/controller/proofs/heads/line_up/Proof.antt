@@ -5,8 +5,9 @@ use mathlib.Core.Path.{_≡_, sym, _∙_}
 use native.Mathlib.Omega.{arith}
 use borrow.Author.Needs.{needs}
 use lib.ListN.{getD, set}
-use Rattle.controller.specs.Walk.{endMark, maxLists, openList, keyOf, Roomy, Stands}
-use Rattle.controller.specs.Laws.Heads.{stands-first, room-set, heads-set}
+use Rattle.controller.specs.Work.Opened.{endMark, maxLists, openList}
+use Rattle.controller.specs.Work.Heads.{keyOf, Roomy, Stands}
+use Rattle.controller.specs.Laws.Work.Heads.{stands-first, room-set, heads-set}
 use Rattle.controller.proofs.heads.line_up.Statement.{statement}
 use Rattle.controller.proofs.heads.line_up.Tie as tie
 
@@ -31,19 +32,29 @@ Inv-loop own tray starts counts len tree₀ nexts₀ at₀ j₀ tree nexts at j 
 abbrev μ-loop : tie.MeasureT-loop
 μ-loop own tray starts counts len tree₀ nexts₀ at₀ j₀ tree nexts at j = len - j
 
+-- what was given, from before the loop; the tree that is built, and the end of the loop before it
+abbrev entered : tie.After-slice-known3 Inv-loop μ-loop → tie.Start Inv-loop μ-loop
+entered c = c .before .before .before .before .before .before .before
+
+abbrev built : tie.After-slice-known4 Inv-loop μ-loop → tie.After-build Inv-loop μ-loop
+built c = c .before .before
+
+abbrev ended : tie.After-build Inv-loop μ-loop → tie.At-loop Inv-loop μ-loop
+ended c = c .before .before .before
+
 -- from a turn of the loop: what was given
 abbrev given : tie.At-loop Inv-loop μ-loop → tie.Start Inv-loop μ-loop
-given c = c .before .before .before .before .before .before .before .before
+given c = entered (c .before)
 
 loop-holds : tie.Need-loop-holds Inv-loop μ-loop
-loop-holds c = record { room = c .before .before .before .before .before .before .before .pre .1; lined = λ k h. absurd (omega arith) }
+loop-holds c = record { room = entered c .pre .1; lined = λ k h. absurd (omega arith) }
 
 key-at-requires : tie.Need-key-at-requires Inv-loop μ-loop
 key-at-requires c κs =
     let o = given (c .before) .pre .0 .1 in
     let h = c .loop-test .taken in
     let few = o .few in
-    (omega arith, o .starts, o .counts, o .lies (c .before .loop .j) h)
+    (omega arith, (o .starts, o .counts, o .lies (c .before .loop .j) h))
 
 add-tree : tie.Need-add-tree Inv-loop μ-loop
 add-tree c = search needs
@@ -59,7 +70,7 @@ key-at-requires-2 c κs =
     let o = given (c .before .before) .pre .0 .1 in
     let h = c .before .loop-test .taken in
     let few = o .few in
-    (omega arith, o .starts, o .counts, o .lies (c .before .before .loop .j) h)
+    (omega arith, (o .starts, o .counts, o .lies (c .before .before .loop .j) h))
 
 mul-nexts : tie.Need-mul-nexts Inv-loop μ-loop
 mul-nexts c = search needs
@@ -95,21 +106,21 @@ build-requires c κs =
 
 same-length : tie.Need-same-length Inv-loop μ-loop
 same-length c =
-    let at = c .before .before .before .before .before in
-    c .before .before .build .kept .0 ∙ at .loop .inv .room .tree ∙ sym (given at .pre .1 .tree)
+    let at = ended (built c) in
+    built c .build .kept .0 ∙ at .loop .inv .room .tree ∙ sym (given at .pre .1 .tree)
 
 same-length-2 : tie.Need-same-length-2 Inv-loop μ-loop
-same-length-2 c = let at = c .before .before .before .before .before in at .loop .inv .room .nexts ∙ sym (given at .pre .1 .nexts)
+same-length-2 c = let at = ended (built c) in at .loop .inv .room .nexts ∙ sym (given at .pre .1 .nexts)
 
 same-length-3 : tie.Need-same-length-3 Inv-loop μ-loop
-same-length-3 c = let at = c .before .before .before .before .before in at .loop .inv .room .places ∙ sym (given at .pre .1 .places)
+same-length-3 c = let at = ended (built c) in at .loop .inv .room .places ∙ sym (given at .pre .1 .places)
 
 returns : tie.Need-returns Inv-loop μ-loop
 returns c =
-    let at = c .before .before .before .before .before in
-    let over = c .before .before .before .before .loop-test .left in
+    let at = ended (built c) in
+    let over = built c .before .before .loop-test .left in
     let m = given at .args .len in
-    let r = c .before .before .build .ensures in
+    let r = built c .build .ensures in
     (r .0, λ j h. rw (r .1 (m + j) (omega arith)) (at .loop .inv .lined j (omega arith)))
 
 pub line-up-spec : {M : Type 1} → statement M

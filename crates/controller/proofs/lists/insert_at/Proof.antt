@@ -9,8 +9,8 @@ use lib.ListN.{length, getD, set, length-set}
 use Rattle.wire.specs.Limits.{maxNumbers}
 use Rattle.wire.specs.declared.frame.Numbers.{Numbers}
 use Rattle.controller.specs.Laws.State.{sound-list-gives}
-use Rattle.controller.specs.Laws.Storage.{opened-first, opened-step, opened-stored}
-use Rattle.controller.specs.Storage.{opened}
+use Rattle.controller.specs.Laws.Work.Lists.{opened-first, opened-step, opened-stored}
+use Rattle.controller.specs.Work.Lists.{opened}
 use Rattle.controller.proofs.lists.insert_at.Statement.{statement}
 use Rattle.controller.proofs.lists.insert_at.Tie as tie
 
@@ -21,7 +21,8 @@ Inv-loop at₀ len to x i₀ at i =
 abbrev μ-loop : tie.MeasureT-loop
 μ-loop at₀ len to x i₀ at i = i
 
-turn : (x n i : ℕ) (s at : List ℕ) → 0 < i → i ≤ n → n ≤ length s → set at i x ≡ opened i x n s → set (set at i (getD at (i - 1) 0)) (i - 1) x ≡ opened (i - 1) x n s
+turn : (x n i : ℕ) (s at : List ℕ) → 0 < i → i ≤ n → n ≤ length s → set at i x ≡ opened i x n s
+    → set (set at i (getD at (i - 1) 0)) (i - 1) x ≡ opened (i - 1) x n s
 turn x n i s at p h k e =
     let up : i - 1 + 1 ≡ i = omega arith in
     rw up at (opened-step x n (i - 1) s at (omega arith) k (rw up e))
@@ -80,7 +81,8 @@ returns c =
     let start = c .before .before in
     let a = start .args in
     let e : v .i ≡ a .to = search needs in
-    opened-stored (list start) (a .to) (a .x) (set (v .at) (a .to) (a .x)) (sound-list-gives (list start) (start .pre .0) .back) (search needs) (search needs) (rw e at (v .inv .5))
+    let back = sound-list-gives (list start) (start .pre .0) .back in
+    opened-stored (list start) (a .to) (a .x) (set (v .at) (a .to) (a .x)) back (search needs) (search needs) (rw e at (v .inv .5))
 
 pub insert-at-spec : {M : Type 1} → statement M
 insert-at-spec =

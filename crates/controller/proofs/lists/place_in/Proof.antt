@@ -1,4 +1,5 @@
--- `controller::lists::place_in` meets its contract: the place lies between the two ends all the time, since in a rising list a number below x is before it and one that is not is not.
+-- `controller::lists::place_in` meets its contract: the place lies between the two ends all the time, since in a rising list a number
+-- below x is before it and one that is not is not.
 use Prim.Native.Nat.{ℕ, _+_, _-_, _/_, _≤_, _<_}
 use mathlib.Core.Path.{_≡_}
 use native.Mathlib.Omega.{arith}
@@ -8,8 +9,8 @@ use lib.Seq.{getD-take}
 use Rattle.wire.specs.Limits.{maxNumbers}
 use Rattle.wire.specs.Numbers.{listed}
 use Rattle.controller.specs.Laws.State.{ListTests, sound-list-gives}
-use Rattle.controller.specs.Laws.Storage.{below-past, below-within, below-length}
-use Rattle.controller.specs.Storage.{below}
+use Rattle.controller.specs.Laws.Work.Lists.{below-past, below-within, below-length}
+use Rattle.controller.specs.Work.Lists.{below}
 use Rattle.wire.specs.declared.frame.Numbers.{Numbers}
 use Rattle.controller.proofs.lists.place_in.Statement.{statement}
 use Rattle.controller.proofs.lists.place_in.Tie as tie
@@ -44,8 +45,12 @@ loop-holds c =
     let t = sound-list-gives n (c .pre) in
     (omega arith, rw (← t .used) (t .list .short), omega arith, omega (arith, t .used, below-length (c .args .x) (listed n)))
 
+-- what was given, from a turn
+abbrev given : tie.In-loop Inv-loop μ-loop → tie.Start Inv-loop μ-loop
+given c = c .before .before
+
 -- what is looked at is one of the list
-middle : (c : tie.In-loop Inv-loop μ-loop) → (c .before .loop .low + c .before .loop .high) / 2 < c .before .before .args .len
+middle : (c : tie.In-loop Inv-loop μ-loop) → (c .before .loop .low + c .before .loop .high) / 2 < given c .args .len
 middle c = omega (arith, c .loop-test .taken, c .before .loop .inv .0)
 
 add-middle : tie.Need-add-middle Inv-loop μ-loop
@@ -65,9 +70,10 @@ loop-less c = omega (arith, c .before .before .loop-test .taken)
 
 loop-again : tie.Need-loop-again Inv-loop μ-loop
 loop-again c =
-    let v = c .before .before .before .loop in
-    let n = list (c .before .before .before .before) in
-    let more = past n (c .before .before .before .before .args .x) _ (sound-list-gives n (c .before .before .before .before .pre)) (middle (c .before .before)) (c .if1 .taken) in
+    let turn = c .before .before in
+    let v = turn .before .loop in
+    let n = list (given turn) in
+    let more = past n (given turn .args .x) _ (sound-list-gives n (given turn .pre)) (middle turn) (c .if1 .taken) in
     (v .inv .0, v .inv .1, omega (arith, more), v .inv .3)
 
 loop-less-2 : tie.Need-loop-less-2 Inv-loop μ-loop
@@ -75,10 +81,11 @@ loop-less-2 c = omega (arith, c .before .before .loop-test .taken)
 
 loop-again-2 : tie.Need-loop-again-2 Inv-loop μ-loop
 loop-again-2 c =
-    let v = c .before .before .before .loop in
-    let n = list (c .before .before .before .before) in
-    let most = within n (c .before .before .before .before .args .x) _ (sound-list-gives n (c .before .before .before .before .pre)) (middle (c .before .before)) (c .if1 .left) in
-    (omega (arith, middle (c .before .before)), v .inv .1, v .inv .2, most)
+    let turn = c .before .before in
+    let v = turn .before .loop in
+    let n = list (given turn) in
+    let most = within n (given turn .args .x) _ (sound-list-gives n (given turn .pre)) (middle turn) (c .if1 .left) in
+    (omega (arith, middle turn), v .inv .1, v .inv .2, most)
 
 returns : tie.Need-returns Inv-loop μ-loop
 returns c = omega (arith, c .loop-test .left, c .before .loop .inv .2, c .before .loop .inv .3)

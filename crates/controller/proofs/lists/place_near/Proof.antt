@@ -8,7 +8,7 @@ use lib.ListN.{getD}
 use lib.Seq.{getD-take}
 use Rattle.controller.specs.Laws.Lists.{rising-at}
 use Rattle.controller.specs.Laws.State.{ListTests, sound-list-gives}
-use Rattle.controller.specs.Storage.{below}
+use Rattle.controller.specs.Work.Lists.{below}
 use Rattle.wire.specs.Limits.{maxNumbers}
 use Rattle.wire.specs.Numbers.{listed}
 use Rattle.wire.specs.declared.frame.Numbers.{Numbers}

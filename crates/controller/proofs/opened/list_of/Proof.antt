@@ -2,6 +2,7 @@
 use Prim.Native.Nat.{ℕ, zero, suc, _+_, _*_, _≤_, _<_}
 use mathlib.Core.Bool.{Bool, true, false, cond}
 use mathlib.Core.List.{List, []}
+use mathlib.Core.Option.{Option, some, none}
 use mathlib.Core.Path.{_≡_, refl, sym, ap, _∙_}
 use native.Mathlib.Decide.{decLt}
 use native.Mathlib.Omega.{arith}
@@ -11,18 +12,16 @@ use denote.Ref.{now}
 use lib.Dec.{leb}
 use lib.ListN.{length, getD, take, drop, length-take, length-drop}
 use lib.Seq.{getD-take, getD-drop, length-take-le}
-use Rattle.wire.specs.Frame.{content, readStored}
-use Rattle.wire.specs.Laws.Frame.{numbers-lie}
-use Rattle.wire.specs.Laws.Numbers.{listed-stored}
-use Rattle.wire.specs.Limits.{frameHeader, offsetAt}
-use Rattle.wire.specs.Numbers.{listed}
+use Rattle.wire.specs.Frame.{Content, content, countOf}
+use Rattle.wire.specs.Laws.Frame.{read-numbers}
+use Rattle.wire.specs.Laws.Words.{words-length}
+use Rattle.wire.specs.Limits.{frameHeader, numberWidth, offsetAt}
 use Rattle.wire.specs.Tray.{entryAt, offsetOf, lengthOf, inDirectory, place, part, bytesAt}
 use Rattle.wire.specs.Words.{wordsAt, Below}
 use Rattle.wire.specs.declared.tray.Found.{Found}
 use Rattle.wire.specs.declared.tray.Found.the-variants.{At, Nothing}
-use Rattle.controller.specs.Laws.Received.{read-numbers-are}
 use Rattle.controller.specs.Received.{readIn, listIn}
-use Rattle.controller.specs.Walk.{SpanOf}
+use Rattle.controller.specs.Work.Opened.{SpanOf}
 use Rattle.controller.proofs.opened.list_of.Statement.{statement}
 use Rattle.controller.proofs.opened.list_of.Tie as tie
 
@@ -56,11 +55,14 @@ module _ (b : List ℕ) (o n : ℕ) where
       pick true h = getD-take n (drop o b) k 0 (omega (arith, length-take n (drop o b))) ∙ getD-drop o b k 0
       pick false h = absurd (omega arith)
 
-list-words : (s : List ℕ) (t n : ℕ) → n ≡ (readStored (content s t)) .numbers .len → wordsAt s frameHeader n ≡ listIn (content s t)
-list-words s t n e =
-    sym (listed-stored (wordsAt s frameHeader n))
-    ∙ ap listed (sym (numbers-lie s t n e .0) ∙ read-numbers-are (content s t))
-    ∙ listed-stored (listIn (content s t))
+-- the numbers of what is read lie one behind the other from the header's end on, and the bytes hold them all
+numbers-lie : (s : List ℕ) (t n : ℕ) (o : Option Content) → content s t ≡ o → n ≡ length (listIn o)
+    → (wordsAt s frameHeader n ≡ listIn o) × (0 < n → frameHeader + numberWidth * n ≤ length s)
+numbers-lie s t n none h e = (rw e, λ l. absurd (omega arith))
+numbers-lie s t n (some c) h e =
+    let read = read-numbers s t c h in
+    let same : n ≡ countOf s = e ∙ ap length (read .0) ∙ words-length s frameHeader (countOf s) in
+    (rw same (sym (read .0)), λ l. omega (arith, same, read .1))
 
 -- an offset is two bytes
 abbrev offset : Found → ℕ
@@ -76,19 +78,20 @@ offset-small s i bytes = pick (inDirectory s i)
     pick false = omega arith
 
 module _ (b : List ℕ) (i t : ℕ) (bytes : Below 256 b) where
-  found : (o n r : ℕ) (s : List ℕ) → place b i ≡ At o n → s ≡ part b o n → r ≡ (readStored (content s t)) .numbers .len
+  found : (o n r : ℕ) (s : List ℕ) → place b i ≡ At o n → s ≡ part b o n → r ≡ length (listIn (content s t))
       → SpanOf b (listIn (readIn t (bytesAt b (place b i)))) (o + 8) r
   found o n r s p e read =
       let s-is : part b o n ≡ s = sym e in
       let low : o < 65536 = rw p at (offset-small b i bytes) in
       let size = rw s-is at (part-lies b o n) in
-      let lie = numbers-lie s t r read .1 in
+      let numbers = numbers-lie s t r (content s t) refl read in
+      let lie = numbers .1 in
       let words : wordsAt b (o + 8) r ≡ wordsAt s frameHeader r = elim (decLt 0 r) [
         | yes h ↦ sym (words-part s b o (rw s-is at (part-byte b o n)) frameHeader r (lie h))
         | no h ↦ let none : r ≡ 0 = omega arith in rw none
       ] in
       record {
-        is = rw (p, s-is) (words ∙ list-words s t r read);
+        is = rw (p, s-is) (words ∙ numbers .0);
         low = omega arith;
         inside = λ k h. omega (arith, lie (omega arith), size (omega (arith, lie (omega arith))));
       }
@@ -101,7 +104,8 @@ tray-bytes c i = let h = c .before .shared-slice-known .given i in omega arith
 
 -- where the frame of the entry lies
 lies-at : (c : tie.After-found)
-    → let a = c .before .before .before .before .args in
+    → let at = c .before .before in
+    let a = at .before .before .args in
     place (now (a .tray)) (a .entry) ≡ At (c .found .given .0 .0) (c .found .given .0 .1 .0)
 lies-at c = sym (c .before .before .entry-place .ensures) ∙ c .found .given .1
 
@@ -119,8 +123,8 @@ add-t8 c =
 part-of-requires : tie.Need-part-of-requires
 part-of-requires c κs = search needs
 
-read-count-requires : tie.Need-read-count-requires
-read-count-requires c κs = search needs
+list-count-requires : tie.Need-list-count-requires
+list-count-requires c κs = search needs
 
 enum-told : tie.Need-enum-told
 enum-told c = search needs
@@ -128,7 +132,7 @@ enum-told c = search needs
 returns : tie.Need-returns
 returns c =
     let known = c .before .before .before in
-    found _ _ _ (tray-bytes (known .before .before)) _ _ _ _ (lies-at known) (c .before .part-of .ensures) (c .read-count .ensures)
+    found _ _ _ (tray-bytes (known .before .before)) _ _ _ _ (lies-at known) (c .before .part-of .ensures) (c .list-count .ensures)
 
 returns-2 : tie.Need-returns-2
 returns-2 c = missing _ _ _ (tray-bytes (c .before .before)) (sym (c .before .before .entry-place .ensures) ∙ c .enum-told .given .1)
@@ -141,7 +145,7 @@ list-of-spec =
     enum-known-found
     add-t8
     part-of-requires
-    read-count-requires
+    list-count-requires
     enum-told
     returns
     returns-2)

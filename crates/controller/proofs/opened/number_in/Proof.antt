@@ -12,8 +12,8 @@ use lib.ListN.{length, getD, List·getD-eq-default}
 use lib.Seq.{getD-take}
 use Rattle.wire.specs.Limits.{numberWidth}
 use Rattle.wire.specs.Words.{wordAt}
-use Rattle.controller.specs.Laws.Opened.{getD-inside, words-at, list-from-length}
-use Rattle.controller.specs.Walk.{endMark, listFrom, Lies}
+use Rattle.controller.specs.Laws.Work.Opened.{getD-inside, words-at, list-from-length}
+use Rattle.controller.specs.Work.Opened.{endMark, listFrom, Lies}
 use Rattle.controller.proofs.opened.number_in.Statement.{statement}
 use Rattle.controller.proofs.opened.number_in.Tie as tie
 
@@ -32,20 +32,24 @@ module _ (own b : List ℕ) (j start count i : ℕ) (lies : Lies own b j start c
   no-number : count ≤ i → endMark ≡ getD (listFrom own b j start count) i endMark
   no-number h = sym (List·getD-eq-default (listFrom own b j start count) endMark (omega (arith, list-from-length own b j start count lies)))
 
+-- what was given
+abbrev given : tie.Then1 → tie.Start
+given c = c .before .before .before
+
 mul-result : tie.Need-mul-result
 mul-result c = search needs
 
 shared-slice-read-result : tie.Need-shared-slice-read-result
-shared-slice-read-result c = omega (arith, c .before .before .if1 .taken, c .before .before .before .before .before .pre .mine (c .before .if2 .taken))
+shared-slice-read-result c = omega (arith, c .before .before .if1 .taken, given (c .before .before) .pre .mine (c .before .if2 .taken))
 
 cast-result : tie.Need-cast-result
-cast-result c = let h = c .shared-slice-known3 .given (c .before .before .before .before .before .args .i) in omega arith
+cast-result c = let h = c .shared-slice-known3 .given (given (c .before .before) .args .i) in omega arith
 
 mul-read-number : tie.Need-mul-read-number
-mul-read-number c = omega (arith, c .before .if1 .taken, c .before .before .before .before .pre .short)
+mul-read-number c = omega (arith, c .before .if1 .taken, given (c .before) .pre .short)
 
 add-read-number : tie.Need-add-read-number
-add-read-number c = omega (arith, c .before .if1 .taken, c .before .before .before .before .pre .short, c .before .before .before .before .pre .low)
+add-read-number c = omega (arith, c .before .if1 .taken, given (c .before) .pre .short, given (c .before) .pre .low)
 
 read-number-requires : tie.Need-read-number-requires
 read-number-requires c κs = search needs
@@ -55,13 +59,13 @@ cast-result-2 c = search needs
 
 returns : tie.Need-returns
 returns c =
-    let start = c .before .before .before .before .before in
+    let start = given (c .before .before) in
     let fits = c .shared-slice-known3 .given (start .args .i) in
     (own-number _ _ _ _ _ _ (start .pre) (c .before .before .if1 .taken) (c .before .if2 .taken), omega arith)
 
 returns-2 : tie.Need-returns-2
 returns-2 c =
-    let start = c .before .before .before .before .before in
+    let start = given (c .before .before) in
     let fits = c .read-number .ok in
     (tray-number _ _ _ _ _ _ (start .pre) _ (c .before .before .if1 .taken) (c .before .if2 .left) (c .read-number .ensures), omega arith)
 

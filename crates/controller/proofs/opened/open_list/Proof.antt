@@ -9,14 +9,18 @@ use lib.ListN.{take}
 use Rattle.controller.proofs.opened.open_list.Statement.{statement}
 use Rattle.controller.proofs.opened.open_list.Tie as tie
 
+-- what was given
+abbrev given : tie.After-slice-known4 → tie.Start
+given c = c .before .before .before .before .before .before
+
 slice-read-if1 : tie.Need-slice-read-if1
 slice-read-if1 c = search needs
 
 same-list-requires : tie.Need-same-list-requires
 same-list-requires c κs =
-    let pre = c .before .before .before .before .before .before .before .pre in
+    let pre = given (c .before) .pre in
     let same = c .if1 .taken in
-    (pre .8 .low, omega (arith, pre .6), omega (arith, pre .6, pre .7), pre .8 .inside)
+    (pre .2 .low, omega (arith, pre .1), omega (arith, pre .1, pre .0 .whole), pre .2 .inside)
 
 slice-read-sent : tie.Need-slice-read-sent
 slice-read-sent c = search needs
@@ -33,7 +37,7 @@ same-length c = search needs
 returns : tie.Need-returns
 returns c =
     let equal = c .before .before in
-    let a = equal .before .before .before .before .before .before .before .before .args in
+    let a = given (equal .before .before) .args in
     inl (record {
       same = equal .same-list .ensures (c .before .if2 .taken) ∙ ap (λ (n : ℕ). take n (now (a .own))) (equal .before .if1 .taken);
       starts = refl;
@@ -74,11 +78,11 @@ same-length-4 c = search needs
 
 returns-2 : tie.Need-returns-2
 returns-2 c =
-    let start = c .before .before .before .before .before .before .before in
+    let start = given (c .before) in
     inr (record {
       start = start .args .list .start;
       count = start .args .list .count;
-      span = start .pre .8;
+      span = start .pre .2;
       starts = refl;
       counts = refl;
       weights = refl;

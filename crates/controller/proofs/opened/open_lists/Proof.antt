@@ -1,7 +1,7 @@
 -- `controller::opened::open_lists` meets its contract: the lists gone through are open or counted with an open one, and count with those left as all do.
 use Prim.Native.Nat.{_+_, _-_, _≤_, _<_}
 use mathlib.Core.List.{[]}
-use mathlib.Core.Path.{_≡_, _∙_}
+use mathlib.Core.Path.{_≡_, sym, _∙_}
 use native.Mathlib.Omega.{arith}
 use borrow.Author.Needs.{needs}
 use denote.Ref.{now}
@@ -11,15 +11,15 @@ use Rattle.wire.specs.Limits.{maxNumbers}
 use Rattle.wire.specs.Tray.{entries}
 use Rattle.wire.specs.Words.{Below}
 use Rattle.controller.specs.Fields.{stateOf}
-use Rattle.controller.specs.Laws.Opened.{Opening, sent-few, own-sized, opening-start, opening-else, opening-more, opening-end}
-use Rattle.controller.specs.Laws.Ready.{ready-size, ready-few, ready-short, ready-list, ready-alike}
+use Rattle.controller.specs.Laws.Work.Opened.{Opening, sent-few, own-sized, opening-start, lists-else, opening-more, opening-end}
+use Rattle.controller.specs.Laws.Work.Ready.{ready-size, ready-few, ready-short, ready-list, ready-alike}
 use Rattle.controller.specs.Laws.State.{sound-gives}
-use Rattle.controller.specs.Laws.Tally.{listAt, under-list}
-use Rattle.controller.specs.Laws.Total.{total-has}
-use Rattle.controller.specs.Received.{heardAfter}
+use Rattle.controller.specs.Laws.Work.Tally.{nthList, list-at-sound, under-list}
+use Rattle.controller.specs.Laws.Work.Total.{total-has}
+use Rattle.controller.specs.Received.{receive, lists}
 use Rattle.controller.specs.State.{view}
-use Rattle.controller.specs.Storage.{listUnder}
-use Rattle.controller.specs.Walk.{endMark, sentCount}
+use Rattle.controller.specs.Work.Received.{receivedBy, sentCount}
+use Rattle.controller.specs.Work.Opened.{listUnder, endMark}
 use Rattle.controller.specs.declared.state.State.{State}
 use Rattle.controller.proofs.opened.open_lists.Statement.{statement}
 use Rattle.controller.proofs.opened.open_lists.Tie as tie
@@ -28,14 +28,21 @@ abbrev Inv-loop : tie.InvT-loop
 Inv-loop fields heard own tray firsts starts₀ counts₀ sent₀ len₀ j₀ starts counts sent len j =
     (j ≤ fields .heard)
     × (getD counts 0 0 ≡ sentCount fields)
-    × Opening (view (stateOf fields heard [] own)) (entries tray) own tray starts counts sent len j
+    × Opening (lists (receivedBy (stateOf fields heard [] own) tray)) own tray starts counts sent len j
 
 abbrev μ-loop : tie.MeasureT-loop
 μ-loop fields heard own tray firsts starts₀ counts₀ sent₀ len₀ j₀ starts counts sent len j = fields .heard - j
 
+-- the lent tray, and what is asked of `open_received`
+abbrev lent : tie.After-sent-count Inv-loop μ-loop → tie.After-shared-slice-known2 Inv-loop μ-loop
+lent c = c .before .before .before .before
+
+abbrev asked : tie.After-open-received-arg5 Inv-loop μ-loop → tie.After-open-received-arg2 Inv-loop μ-loop
+asked c = c .before .before .before
+
 -- the call, a turn, and its count
 abbrev outside : tie.At-loop Inv-loop μ-loop → tie.Start Inv-loop μ-loop
-outside c = c .before .before .before .before .before .before .before
+outside c = lent (c .before) .before .before
 
 abbrev turn : tie.After-alike Inv-loop μ-loop → tie.Then1 Inv-loop μ-loop
 turn c = c .before .before .before
@@ -44,7 +51,7 @@ abbrev received : tie.After-slice-known6 Inv-loop μ-loop → tie.After-open-rec
 received c = c .before .before .before .before .before .before
 
 abbrev counted : tie.After-open-received Inv-loop μ-loop → tie.After-alike Inv-loop μ-loop
-counted c = c .before .before .before .before .before .before
+counted c = asked (c .before) .before .before
 
 -- the state that is ready
 abbrev state : tie.At-loop Inv-loop μ-loop → State
@@ -61,7 +68,7 @@ list-is : (c : tie.Then1 Inv-loop μ-loop)
     → let a = outside (c .before .before) .args in
     let j = c .before .before .loop .j in
     listUnder (a .fields) (now (a .own)) (now (a .tray)) (getD (now (a .heard)) j 0) (getD (now (a .firsts)) j 0)
-    ≡ listAt (view (state (c .before .before))) (entries (now (a .tray))) j
+    ≡ nthList (lists (receivedBy (state (c .before .before)) (now (a .tray)))) j
 list-is c =
     let a = outside (c .before .before) .args in
     let pre = outside (c .before .before) .pre in
@@ -73,12 +80,12 @@ sent-count-requires : tie.Need-sent-count-requires Inv-loop μ-loop
 sent-count-requires c κs = search needs
 
 slice-write-counts : tie.Need-slice-write-counts Inv-loop μ-loop
-slice-write-counts c = omega (arith, c .before .before .before .before .before .before .pre .counts)
+slice-write-counts c = omega (arith, lent c .before .before .pre .counts)
 
 loop-holds : tie.Need-loop-holds Inv-loop μ-loop
 loop-holds c =
-    let start = c .before .before .before .before .before .before in
-    let own : Below endMark (now (start .args .own)) = λ i. let h = c .before .before .before .before .before .shared-slice-known .given i in omega arith in
+    let start = lent c .before .before in
+    let own : Below endMark (now (start .args .own)) = λ i. let h = lent c .before .shared-slice-known .given i in omega arith in
     let first = getD-set-same (now (start .args .counts)) 0 (c .sent-count .result) 0 (omega (arith, start .pre .counts)) in
     (omega arith, first ∙ c .sent-count .ensures, opening-start (start .pre) (c .sent-count .result) (c .sent-count .ensures) own)
 
@@ -102,20 +109,21 @@ element-copy-out-open-received-2 c = omega (arith, place-fits (turn (c .before))
 
 open-received-requires : tie.Need-open-received-requires Inv-loop μ-loop
 open-received-requires c κs =
-    let call = c .before .before .before .before .before in
+    let call = asked c .before .before in
     let at-loop = turn call .before .before in
     let v = at-loop .loop in
     let opens = v .inv .2 .opens in
     let pre = outside at-loop .pre in (
-      omega (arith, v .inv .2 .few, place-fits (turn call)),
-      opens .starts,
-      opens .counts,
-      opens .weights,
-      omega (arith, opens .light, total-has (λ i. getD (v .sent) i 0) (v .len) 0 (opens .some)),
-      omega (arith, weight-fits call),
-      v .inv .1,
-      sent-few pre,
-      omega (arith, own-sized pre),
+      record {
+        free = omega (arith, v .inv .2 .few, place-fits (turn call));
+        starts = opens .starts;
+        counts = opens .counts;
+        sent = opens .weights;
+        light = omega (arith, opens .light, total-has (λ i. getD (v .sent) i 0) (v .len) 0 (opens .some));
+        weight = omega (arith, weight-fits call);
+        whole = omega (arith, own-sized pre);
+      },
+      (v .inv .1, sent-few pre),
     )
 
 add-j : tie.Need-add-j Inv-loop μ-loop
@@ -133,14 +141,16 @@ loop-again c =
     let start = outside at-loop in
     let a = start .args in
     let ready = start .pre .ready in
-    let es = entries (now (a .tray)) in
-    let bytes : Below 256 (now (a .tray)) = λ i. let h = at-loop .before .before .before .before .before .shared-slice-known2 .given i in omega arith in
-    let so-far = opening-else (a .fields) (now (a .heard)) [] (start .pre .candidates) (now (a .own)) es (v .inv .2) in
+    let bytes : Below 256 (now (a .tray)) = λ i. let h = lent (at-loop .before) .shared-slice-known2 .given i in omega arith in
+    let else = lists-else (a .fields) (now (a .heard)) [] (start .pre .candidates) (now (a .own)) (now (a .tray)) in
+    let l = lists (receivedBy (state at-loop) (now (a .tray))) in
+    let so-far : Opening l (now (a .own)) (now (a .tray)) (v .starts) (v .counts) (v .sent) (v .len) (v .j) = rw (sym else) (v .inv .2) in
     let adds = rw (list-is (turn call)) at (received c .open-received .ensures) in
+    let sound = list-at-sound (view (state at-loop)) (entries (now (a .tray))) (sound-gives (state at-loop) (ready .sound)) (v .j) in
     let more =
-    opening-more (view (state at-loop)) es (call .alike .result) (sound-gives (state at-loop) (ready .sound)) bytes (ready-short ready)
+    opening-more l (call .alike .result) sound bytes (ready-short ready)
     (alike .some) (omega (arith, ready-size ready, alike .inside)) (ready-alike ready (v .j) (call .alike .result) alike) so-far adds in
-    (alike .inside, more .1 ∙ v .inv .1, opening-else (a .fields) (now (a .heard)) (start .pre .candidates) [] (now (a .own)) es (more .0))
+    (alike .inside, more .1 ∙ v .inv .1, rw else (more .0))
 
 same-length : tie.Need-same-length Inv-loop μ-loop
 same-length c = let at-loop = c .before .before in omega (arith, at-loop .loop .inv .2 .opens .starts, outside at-loop .pre .starts)
@@ -152,7 +162,7 @@ same-length-3 : tie.Need-same-length-3 Inv-loop μ-loop
 same-length-3 c = let at-loop = c .before .before in omega (arith, at-loop .loop .inv .2 .opens .weights, outside at-loop .pre .weights)
 
 returns : tie.Need-returns Inv-loop μ-loop
-unfolding heardAfter
+unfolding receive
 returns c =
     let at-loop = c .before .before in
     let v = at-loop .loop in

@@ -14,8 +14,8 @@ use Rattle.wire.specs.Frame.{kindOf, maxCount}
 use Rattle.wire.specs.Tray.{place, bytesAt}
 use Rattle.wire.specs.Words.{wordsAt}
 use Rattle.controller.specs.Received.{readIn, listIn}
-use Rattle.controller.specs.Storage.{listUnder}
-use Rattle.controller.specs.Walk.{SpanOf, sentCount}
+use Rattle.controller.specs.Work.Opened.{listUnder, SpanOf}
+use Rattle.controller.specs.Work.Received.{sentCount}
 use Rattle.controller.specs.declared.state.Fields.{Fields}
 use Rattle.controller.proofs.opened.open_received.Statement.{statement}
 use Rattle.controller.proofs.opened.open_received.Tie as tie
@@ -35,6 +35,16 @@ module _ (f : Fields) (e b : List ℕ) (x i : ℕ) where
 span-words : {b l : List ℕ} {start count : ℕ} → SpanOf b l start count → SpanOf b (wordsAt b start count) start count
 span-words span = record { is = refl; low = span .low; inside = span .inside }
 
+-- what was given; the list that was asked for, and that was opened
+abbrev given : tie.After-struct-known → tie.Start
+given c = c .before .before .before .before .before .before
+
+abbrev asked : tie.After-open-list-arg3 → tie.After-list-of
+asked c = c .before .before .before
+
+abbrev added : tie.After-slice-known7 → tie.After-open-list
+added c = c .before .before .before .before .before .before
+
 slice-read-sent : tie.Need-slice-read-sent
 slice-read-sent c = search needs
 
@@ -49,12 +59,12 @@ same-length c = search needs
 
 returns : tie.Need-returns
 returns c =
-    let start = c .before .before .before .before .before .before .before .before in
+    let start = given (c .before .before) in
     let a = start .args in
     inl (record {
       same =
           oneself (a .fields) (now (a .own)) (now (a .tray)) (a .x) (a .entry) (c .before .if1 .taken)
-          ∙ ap (λ (n : ℕ). take n (now (a .own))) (sym (start .pre .6));
+          ∙ ap (λ (n : ℕ). take n (now (a .own))) (sym (start .pre .1 .0));
       starts = refl;
       counts = refl;
       weights = refl;
@@ -66,18 +76,9 @@ list-of-requires c κs = search needs
 
 open-list-requires : tie.Need-open-list-requires
 open-list-requires c κs =
-    let found = c .before .before .before in
-    let pre = found .before .before .before .before .before .before .before .before .pre in (
-      pre .0,
-      pre .1,
-      pre .2,
-      pre .3,
-      pre .4,
-      pre .5,
-      omega (arith, pre .6, pre .7),
-      pre .8,
-      span-words (found .list-of .ensures),
-    )
+    let found = asked c in
+    let pre = given (found .before .before) .pre in
+    (pre .0, omega (arith, pre .1 .0, pre .1 .1), span-words (found .list-of .ensures))
 
 same-length-2 : tie.Need-same-length-2
 same-length-2 c = search needs
@@ -90,9 +91,9 @@ same-length-4 c = search needs
 
 returns-2 : tie.Need-returns-2
 returns-2 c =
-    let opened = c .before .before .before .before .before .before in
-    let found = opened .before .before .before .before in
-    let a = found .before .before .before .before .before .before .before .before .args in
+    let opened = added c in
+    let found = asked (opened .before) in
+    let a = given (found .before .before) .args in
     let list = found .list-of .ensures .is ∙ another (a .fields) (now (a .own)) (now (a .tray)) (a .x) (a .entry) (found .before .if1 .left) in
     rw list at (opened .open-list .ensures)
 

@@ -14,7 +14,7 @@ use lib.Seq.{ext-getD, getD-take, length-take-le}
 use Rattle.wire.specs.Limits.{numberWidth}
 use Rattle.wire.specs.Laws.Words.{words-length}
 use Rattle.wire.specs.Words.{wordAt, wordsAt}
-use Rattle.controller.specs.Laws.Opened.{words-at}
+use Rattle.controller.specs.Laws.Work.Opened.{words-at}
 use Rattle.controller.proofs.opened.same_list.Statement.{statement}
 use Rattle.controller.proofs.opened.same_list.Tie as tie
 
@@ -39,6 +39,10 @@ module _ (b own : List ℕ) (start : ℕ) where
       (λ k h.
       let low : k < count = omega arith in
       words-at b start count k 0 low ∙ same k (omega arith) ∙ sym (getD-take count own k 0 low))
+
+-- what was given
+abbrev given : tie.At-loop Inv-loop μ-loop → tie.Start Inv-loop μ-loop
+given c = c .before .before .before
 
 loop-holds : tie.Need-loop-holds Inv-loop μ-loop
 loop-holds c = (search needs, λ k h. absurd (omega arith))
@@ -71,7 +75,7 @@ loop-again : tie.Need-loop-again Inv-loop μ-loop
 loop-again c =
     let turn = c .before .before .before in
     let v = turn .before .loop in
-    let start = turn .before .before .before .before in
+    let start = given (turn .before) in
     let a = start .args in
     let inside = start .pre .3 (v .i) (turn .loop-test .taken) in
     let read = c .before .before .read-number .ensures in
@@ -79,7 +83,7 @@ loop-again c =
 
 returns-2 : tie.Need-returns-2 Inv-loop μ-loop
 returns-2 c =
-    let start = c .before .before .before .before in
+    let start = given (c .before) in
     λ e. whole (now (start .args .tray)) (now (start .args .own)) (start .args .start) _ _ (start .pre .2) (c .loop-test .left) (c .before .loop .inv .1)
 
 pub same-list-spec : {M : Type 1} → statement M

@@ -11,22 +11,20 @@ use lib.ListN.{length, getD, take}
 use lib.Seq.{take-suc, take-all}
 use Rattle.controller.specs.Fields.{stateOf}
 use Rattle.controller.specs.Laws.Lists.{count-append}
-use Rattle.controller.specs.Laws.Ready.{ready-listed, ready-used, ready-says}
+use Rattle.controller.specs.Laws.Work.Ready.{ready-listed, ready-used, ready-says}
 use Rattle.controller.specs.Lists.{countIf}
-use Rattle.controller.specs.Received.{heardAfter, received, says}
-use Rattle.controller.specs.State.{view}
-use Rattle.controller.specs.Storage.{Ready, bitUnder}
+use Rattle.controller.specs.Received.{says}
+use Rattle.controller.specs.Work.Received.{receivedBy, Ready, bitUnder}
 use Rattle.controller.specs.declared.state.State.{State}
 use Rattle.wire.specs.Frame.{kindOf}
 use Rattle.wire.specs.Limits.{maxNumbers}
 use Rattle.wire.specs.Numbers.{listed}
-use Rattle.wire.specs.Tray.{entries}
 use Rattle.controller.proofs.received.count_bits.Statement.{statement}
 use Rattle.controller.proofs.received.count_bits.Tie as tie
 
 -- whether the frame received under x is counted
 abbrev counted : State → List ℕ → ℕ → ℕ → Bool
-counted s b bit x = says (kindOf (s .round)) bit (received (view s) (entries b) x)
+counted s b bit x = says (kindOf (s .round)) bit ((receivedBy s b) .from x)
 
 -- those counted among the first j
 abbrev total : State → List ℕ → ℕ → ℕ → ℕ
@@ -37,7 +35,8 @@ further f l j h = rw (add-one j, take-suc l j 0, count-append)
 
 module _ {s : State} {b f : List ℕ} (ready : Ready s b f) (bit j n : ℕ) (sum : n ≡ total s b bit j) where
   -- one turn: the bit d that is read at place j, counted
-  turn : (d one : ℕ) → bit < 3 → j < s .heard .len → d ≡ bitUnder (s .own) (s .round) (s .said) b (getD (s .heard .at) j 0) (getD f j 0) → one ≡ cond (eqb d bit) 1 0
+  turn : (d one : ℕ) → bit < 3 → j < s .heard .len
+      → d ≡ bitUnder (s .own) (s .round) (s .said) b (getD (s .heard .at) j 0) (getD f j 0) → one ≡ cond (eqb d bit) 1 0
       → n + one ≡ total s b bit (j + 1)
   turn d one l h read asked =
       let more : one ≡ cond (counted s b bit (getD (listed (s .heard)) j 0)) 1 0 =
@@ -45,7 +44,7 @@ module _ {s : State} {b f : List ℕ} (ready : Ready s b f) (bit j n : ℕ) (sum
       rw (sum, more) (sym (further (counted s b bit) (listed (s .heard)) j (omega (arith, h, ready-used ready))))
 
   -- the last turn has counted all of them
-  ended : s .heard .len ≤ j → n ≡ countIf (counted s b bit) (heardAfter (view s) (entries b))
+  ended : s .heard .len ≤ j → n ≡ countIf (counted s b bit) ((receivedBy s b) .heard)
   ended h = sum ∙ ap (countIf (counted s b bit)) (take-all j (listed (s .heard)) (omega (arith, h, ready-used ready)) ∙ ready-listed ready)
 
 abbrev Inv-loop : tie.InvT-loop
@@ -53,7 +52,8 @@ Inv-loop fields heard tray firsts zeros₀ ones₀ j₀ zeros ones j =
     (j ≤ fields .heard)
     × (zeros ≤ j)
     × (ones ≤ j)
-    × ((c e : List ℕ) → Ready (stateOf fields heard c e) tray firsts → (zeros ≡ total (stateOf fields heard c e) tray 0 j) × (ones ≡ total (stateOf fields heard c e) tray 1 j))
+    × ((c e : List ℕ) → Ready (stateOf fields heard c e) tray firsts
+    → (zeros ≡ total (stateOf fields heard c e) tray 0 j) × (ones ≡ total (stateOf fields heard c e) tray 1 j))
 
 abbrev μ-loop : tie.MeasureT-loop
 μ-loop fields heard tray firsts zeros₀ ones₀ j₀ zeros ones j = fields .heard - j
@@ -65,9 +65,16 @@ one-most d bit = pick (eqb d bit)
     pick true = omega arith
     pick false = omega arith
 
+-- what was given, and the turn in which a bit is received
+abbrev given : tie.At-loop Inv-loop μ-loop → tie.Start Inv-loop μ-loop
+given c = c .before .before
+
+abbrev in-turn : tie.After-received-bit Inv-loop μ-loop → tie.Then1 Inv-loop μ-loop
+in-turn c = c .before .before .before
+
 -- a place of the list is one of 64
 inside : (c : tie.Then1 Inv-loop μ-loop) → c .before .before .loop .j < maxNumbers
-inside c = omega (arith, c .if1 .taken, c .before .before .before .before .pre)
+inside c = omega (arith, c .if1 .taken, given (c .before .before) .pre)
 
 loop-holds : tie.Need-loop-holds Inv-loop μ-loop
 loop-holds c = (omega arith, omega arith, omega arith, λ x e ready. (refl, refl))
@@ -92,27 +99,27 @@ one-if-requires c κs = search needs
 
 add-zeros : tie.Need-add-zeros Inv-loop μ-loop
 add-zeros c =
-    let v = c .before .before .before .before .before .before .loop in
-    omega (arith, inside (c .before .before .before .before), v .inv .1, c .one-if .ensures, one-most (c .before .received-bit .result) 0)
+    let v = in-turn (c .before) .before .before .loop in
+    omega (arith, inside (in-turn (c .before)), v .inv .1, c .one-if .ensures, one-most (c .before .received-bit .result) 0)
 
 one-if-requires-2 : tie.Need-one-if-requires-2 Inv-loop μ-loop
 one-if-requires-2 c κs = search needs
 
 add-ones : tie.Need-add-ones Inv-loop μ-loop
 add-ones c =
-    let v = c .before .before .before .before .before .before .before .loop in
-    omega (arith, inside (c .before .before .before .before .before), v .inv .2, c .one-if2 .ensures, one-most (c .before .before .received-bit .result) 1)
+    let v = in-turn (c .before .before) .before .before .loop in
+    omega (arith, inside (in-turn (c .before .before)), v .inv .2, c .one-if2 .ensures, one-most (c .before .before .received-bit .result) 1)
 
 add-j : tie.Need-add-j Inv-loop μ-loop
-add-j c = omega (arith, inside (c .before .before .before .before .before))
+add-j c = omega (arith, inside (in-turn (c .before .before)))
 
 loop-less : tie.Need-loop-less Inv-loop μ-loop
-loop-less c = omega (arith, c .before .before .before .before .before .if1 .taken)
+loop-less c = omega (arith, in-turn (c .before .before) .if1 .taken)
 
 loop-again : tie.Need-loop-again Inv-loop μ-loop
 loop-again c =
-    let v = c .before .before .before .before .before .before .before .loop in
-    let h = c .before .before .before .before .before .if1 .taken in
+    let v = in-turn (c .before .before) .before .before .loop in
+    let h = in-turn (c .before .before) .if1 .taken in
     let bit = c .before .before .received-bit in (
       omega (arith, h),
       omega (arith, v .inv .1, c .before .one-if .ensures, one-most (bit .result) 0),
@@ -126,8 +133,7 @@ loop-again c =
 returns : tie.Need-returns Inv-loop μ-loop
 returns c =
     let v = c .before .before .loop in (
-      omega (arith, v .inv .0, v .inv .1),
-      omega (arith, v .inv .0, v .inv .2),
+      (omega (arith, v .inv .0, v .inv .1), omega (arith, v .inv .0, v .inv .2)),
       λ x e ready.
           let counts = v .inv .3 x e ready in
           record {

@@ -26,16 +26,17 @@ enum-known-found c = search needs
 part-of-requires : tie.Need-part-of-requires
 part-of-requires c κs = search needs
 
-read-bit-requires : tie.Need-read-bit-requires
-read-bit-requires c κs = search needs
+frame-bit-requires : tie.Need-frame-bit-requires
+frame-bit-requires c κs = search needs
 
 enum-told : tie.Need-enum-told
 enum-told c = search needs
 
 returns : tie.Need-returns
 returns c =
-    c .read-bit .ensures
-    ∙ found _ _ _ _ _ _ (sym (c .before .before .before .before .before .entry-place .ensures) ∙ c .before .before .before .found .given .1) (c .before .part-of .ensures)
+    let known = c .before .before .before in
+    let at = sym (known .before .before .entry-place .ensures) ∙ known .found .given .1 in
+    c .frame-bit .ensures ∙ found _ _ _ _ _ _ at (c .before .part-of .ensures)
 
 returns-2 : tie.Need-returns-2
 returns-2 c = missing _ _ _ (sym (c .before .before .entry-place .ensures) ∙ c .enum-told .given .1)
@@ -47,7 +48,7 @@ entry-bit-spec =
     entry-place-requires
     enum-known-found
     part-of-requires
-    read-bit-requires
+    frame-bit-requires
     enum-told
     returns
     returns-2)

@@ -1,5 +1,5 @@
--- `controller::received::first_entries` meets its contract: after each turn the places hold each heard number's first entry among those from i on, since the entry
--- just passed comes before them all; and each of their senders is heard and another.
+-- `controller::received::first_entries` meets its contract: after each turn the places hold each heard number's first entry among those
+-- from i on, since the entry just passed comes before them all; and each of their senders is heard and another.
 use Prim.Native.Nat.{ℕ, suc, _+_, _-_, _≤_, _<_}
 use mathlib.Core.Bool.{true, false, cond, true≢false}
 use mathlib.Core.List.{List, List·Memᴰ·cases-cons, List·Memᴰ·not-nil, Memᴰ·cast}
@@ -20,7 +20,8 @@ use Rattle.controller.specs.Laws.Received.{senders-step, sender-in}
 use Rattle.controller.specs.Laws.State.{ListTests, sound-list-gives}
 use Rattle.controller.specs.Lists.{In, Rising}
 use Rattle.controller.specs.Received.{senders}
-use Rattle.controller.specs.Storage.{below, Finds}
+use Rattle.controller.specs.Work.Lists.{below}
+use Rattle.controller.specs.Work.Received.{Finds}
 use Rattle.wire.specs.Laws.Tray.{directory-holds}
 use Rattle.wire.specs.Limits.{maxNumbers}
 use Rattle.wire.specs.Numbers.{listed}
@@ -83,10 +84,12 @@ module _ (b l : List ℕ) (i : ℕ) (h : i < entryCount b) (heard : In (sender b
     | inr k ↦ behind x k
   ]
 
-  step : (x : ℕ) → firstBytes x (entriesFrom b (entryCount b - i) i) ≡ cond (eqb (sender b i) x) (some (part b (offsetOf b i) (lengthOf b i))) (firstBytes x (entriesFrom b (entryCount b - (i + 1)) (i + 1)))
+  step : (x : ℕ) → firstBytes x (entriesFrom b (entryCount b - i) i)
+      ≡ cond (eqb (sender b i) x) (some (part b (offsetOf b i) (lengthOf b i))) (firstBytes x (entriesFrom b (entryCount b - (i + 1)) (i + 1)))
   step x = let e : entryCount b - i ≡ suc (entryCount b - (i + 1)) = omega arith in rw e
 
-  firsts-turn : (at : List ℕ) (p : ℕ) → wellFormed b ≡ true → Rising l → length l ≤ length at → p ≡ below (sender b i) l → Firsts b l at (i + 1) → Firsts b l (set at p i) i
+  firsts-turn : (at : List ℕ) (p : ℕ) → wellFormed b ≡ true → Rising l → length l ≤ length at
+      → p ≡ below (sender b i) l → Firsts b l at (i + 1) → Firsts b l (set at p i) i
   firsts-turn at p packed up room here behind j k = elim (ℕ-discrete j p) [
     | yes e ↦
         let there : getD l j 0 ≡ sender b i = ap (λ q. getD l q 0) (e ∙ here) ∙ rising-place (sender b i) l up heard in
@@ -100,10 +103,10 @@ module _ (b l : List ℕ) (i : ℕ) (h : i < entryCount b) (heard : In (sender b
   ]
 
 -- entry i, by x, is not one of those heard, or the own
-strange : (own : ℕ) (b l at : List ℕ) (i x : ℕ) → i < entryCount b → x ≡ sender b i → ((In x l × (x ≢ own)) → ⊥) → Finds own b l false at
-strange own b l at i x h e unfit = record {
+unknown : (own : ℕ) (b l at : List ℕ) (i x : ℕ) → i < entryCount b → x ≡ sender b i → ((In x l × (x ≢ own)) → ⊥) → Finds own b l false at
+unknown own b l at i x h e unfit = record {
   known = λ t. absurd (true≢false (sym t));
-  strange = λ t all. unfit (all x (Memᴰ·cast e (sender-in b i h)));
+  unknown = λ t all. unfit (all x (Memᴰ·cast e (sender-in b i h)));
   firsts = λ t. absurd (true≢false (sym t));
 }
 
@@ -111,7 +114,7 @@ found : (own : ℕ) (b l at : List ℕ) (i : ℕ) → i ≡ 0 → Known own b l 
 unfolding entries
 found own b l at i e known firsts = record {
   known = λ t. rw sub-zero at (subst (Known own b l) e known);
-  strange = λ t. absurd (true≢false t);
+  unknown = λ t. absurd (true≢false t);
   firsts = λ t. rw sub-zero at (subst (Firsts b l at) e firsts);
 }
 
@@ -125,9 +128,16 @@ Inv-loop tray own heard len firsts₀ next₀ i₀ firsts next i =
 abbrev μ-loop : tie.MeasureT-loop
 μ-loop tray own heard len firsts₀ next₀ i₀ firsts next i = i
 
+-- what was given, and the sender that was looked for
+abbrev outside : tie.At-loop Inv-loop μ-loop → tie.Start Inv-loop μ-loop
+outside c = c .before .before .before
+
+abbrev read : tie.After-has-at Inv-loop μ-loop → tie.After-entry-sender Inv-loop μ-loop
+read c = c .before .before .before
+
 -- what the function is given, as seen from a turn of the loop
 abbrev given : tie.In-loop Inv-loop μ-loop → tie.Start Inv-loop μ-loop
-given c = c .before .before .before .before
+given c = outside (c .before)
 
 abbrev list : tie.Start Inv-loop μ-loop → Numbers
 list c = record { len = c .args .len; at = now (c .args .heard) }
@@ -164,7 +174,7 @@ returns : tie.Need-returns Inv-loop μ-loop
 returns c =
     let at = c .before .before in
     let a = given at .args in
-    strange (a .own) (now (a .tray)) (listed (list (given at))) _ _ _ (entry-inside at) (c .before .entry-sender .ensures) (λ both. both .1 (c .if1 .taken))
+    unknown (a .own) (now (a .tray)) (listed (list (given at))) _ _ _ (entry-inside at) (c .before .entry-sender .ensures) (λ both. both .1 (c .if1 .taken))
 
 place-near-requires : tie.Need-place-near-requires Inv-loop μ-loop
 place-near-requires c κs = given (c .before .before) .pre .1
@@ -174,9 +184,9 @@ has-at-requires c κs = (given (c .before .before .before) .pre .1, c .place-nea
 
 -- the turn in which a sender has been found in the list
 abbrev turn : tie.Then2 Inv-loop μ-loop → tie.In-loop Inv-loop μ-loop
-turn c = c .before .before .before .before .before
+turn c = read (c .before) .before
 
-heard-here : (c : tie.Then2 Inv-loop μ-loop) → In (c .before .before .before .before .entry-sender .result) (listed (list (given (turn c))))
+heard-here : (c : tie.Then2 Inv-loop μ-loop) → In (read (c .before) .entry-sender .result) (listed (list (given (turn c))))
 heard-here c = mem-in _ (sym (c .before .has-at .ensures) ∙ c .if2 .taken)
 
 place-short : (c : tie.Then2 Inv-loop μ-loop) → c .before .before .place-near .result < maxNumbers
@@ -192,10 +202,10 @@ element-write-firsts c = place-short c
 
 returns-2 : tie.Need-returns-2 Inv-loop μ-loop
 returns-2 c =
-    let at = c .before .before .before .before .before in
+    let at = read (c .before) .before in
     let a = given at .args in
     let out = mem-out (listed (list (given at))) (sym (c .before .has-at .ensures) ∙ c .if2 .left) in
-    strange (a .own) (now (a .tray)) (listed (list (given at))) _ _ _ (entry-inside at) (c .before .before .before .before .entry-sender .ensures) (λ both. out (both .0))
+    unknown (a .own) (now (a .tray)) (listed (list (given at))) _ _ _ (entry-inside at) (read (c .before) .entry-sender .ensures) (λ both. out (both .0))
 
 add-next : tie.Need-add-next Inv-loop μ-loop
 add-next c = omega (arith, place-short c)
@@ -214,7 +224,7 @@ loop-again c =
     let b = now (start .args .tray) in
     let l = listed (list start) in
     let i = v .i - 1 in
-    let sent = c .before .before .before .before .entry-sender in
+    let sent = read (c .before) .entry-sender in
     let near = c .before .before .place-near in
     let was = list-tests start in
     let h : i < entryCount b = entry-inside at in
@@ -232,7 +242,7 @@ loop-again c =
 returns-3 : tie.Need-returns-3 Inv-loop μ-loop
 returns-3 c =
     let v = c .before .loop in
-    let start = c .before .before .before .before in
+    let start = outside (c .before) in
     found (start .args .own) (now (start .args .tray)) (listed (list start)) (v .firsts) (v .i) (omega (arith, c .loop-test .left)) (v .inv .2) (v .inv .3)
 
 pub first-entries-spec : {M : Type 1} → statement M

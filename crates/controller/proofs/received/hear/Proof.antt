@@ -1,4 +1,5 @@
--- `controller::received::hear` meets its contract: those that are left, put into the list so far, give what all give, since the order does not matter; a list of more than 64 only grows.
+-- `controller::received::hear` meets its contract: those that are left, put into the list so far, give what all give,
+-- since the order does not matter; a list of more than 64 only grows.
 use Prim.Native.Nat.{ℕ, _+_, _-_, _≤_, _<_}
 use mathlib.Core.Bool.{true}
 use mathlib.Core.List.{List, Memᴰ·cast}
@@ -12,14 +13,16 @@ use borrow.Author.Tests.{lt-leb}
 use denote.Ref.{now}
 use lib.Dec.{leb}
 use lib.ListN.{length}
-use Rattle.controller.specs.Laws.Storage.{below-length, insert-place, inserted-length}
-use Rattle.controller.specs.Laws.Lists.{inside-length, rising-no-repeats, mem-in, mem-out, insert-in, insert-known, insert-rising, insert-all-in, insert-all-insert}
+use Rattle.controller.specs.Laws.Work.Lists.{below-length, insert-place, inserted-length}
+use Rattle.controller.specs.Laws.Lists.{inside-length, rising-no-repeats, mem-in, mem-out, insert-in, insert-known}
+use Rattle.controller.specs.Laws.Lists.{insert-rising, insert-all-in, insert-all-insert}
 use Rattle.controller.specs.Laws.Received.{senders-step, sender-in}
 use Rattle.controller.specs.Laws.State.{ListTests, sound-list-gives, sound-list-test}
 use Rattle.controller.specs.Lists.{In, insert, insertAll}
 use Rattle.controller.specs.Received.{senders}
 use Rattle.controller.specs.State.{soundList}
-use Rattle.controller.specs.Storage.{below, insertedAt, Hears}
+use Rattle.controller.specs.Work.Lists.{below, insertedAt}
+use Rattle.controller.specs.Work.Received.{Hears}
 use Rattle.wire.specs.Laws.Numbers.{listed-stored}
 use Rattle.wire.specs.Limits.{maxNumbers}
 use Rattle.wire.specs.Numbers.{stored, listed}
@@ -96,7 +99,8 @@ abbrev Inv-loop : tie.InvT-loop
 Inv-loop tray heard₀ len count n₀ next₀ i₀ heard n next i =
     (i ≤ count)
     × (soundList (record { len = n; at = heard }) ≡ true)
-    × (insertAll (rest tray count i) (listed (record { len = n; at = heard })) ≡ insertAll (senders (entries tray)) (listed (record { len = len; at = heard₀ })))
+    × (insertAll (rest tray count i) (listed (record { len = n; at = heard }))
+    ≡ insertAll (senders (entries tray)) (listed (record { len = len; at = heard₀ })))
 
 abbrev μ-loop : tie.MeasureT-loop
 μ-loop tray heard₀ len count n₀ next₀ i₀ heard n next i = count - i
@@ -108,9 +112,22 @@ list c = record { len = c .loop .n; at = c .loop .heard }
 list-tests : (c : tie.At-loop Inv-loop μ-loop) → ListTests (list c)
 list-tests c = sound-list-gives (list c) (c .loop .inv .1)
 
+-- what was given; the sender that is read, and the turn in which it is; the sender that is asked for
+abbrev given : tie.At-loop Inv-loop μ-loop → tie.Start Inv-loop μ-loop
+given c = c .before .before .before
+
+abbrev read : tie.After-place-near Inv-loop μ-loop → tie.After-entry-sender Inv-loop μ-loop
+read c = c .before .before
+
+abbrev within : tie.After-entry-sender Inv-loop μ-loop → tie.At-loop Inv-loop μ-loop
+within c = c .before .before
+
+abbrev room : tie.After-insert-at-arg Inv-loop μ-loop → tie.After-has-at Inv-loop μ-loop
+room c = c .before .before .before
+
 -- the turn that asks for a sender, and the state before the loop
 abbrev turn : tie.After-has-at Inv-loop μ-loop → tie.In-loop Inv-loop μ-loop
-turn c = c .before .before .before .before .before
+turn c = read (c .before .before) .before
 
 abbrev outside : tie.In-loop Inv-loop μ-loop → tie.After-entry-count Inv-loop μ-loop
 outside c = c .before .before
@@ -126,25 +143,25 @@ entry-sender-requires : tie.Need-entry-sender-requires Inv-loop μ-loop
 entry-sender-requires c κs = search needs
 
 place-near-requires : tie.Need-place-near-requires Inv-loop μ-loop
-place-near-requires c κs = c .before .before .before .loop .inv .1
+place-near-requires c κs = within (c .before) .loop .inv .1
 
 -- a place is at most the list's length
-place-small : (c : tie.After-place-near Inv-loop μ-loop) → c .place-near .result ≤ c .before .before .before .before .loop .n
+place-small : (c : tie.After-place-near Inv-loop μ-loop) → c .place-near .result ≤ within (read c) .loop .n
 place-small c =
-    let at = c .before .before .before .before in
-    omega (arith, c .place-near .ensures, below-length (c .before .before .entry-sender .result) (listed (list at)), list-tests at .used)
+    let at = within (read c) in
+    omega (arith, c .place-near .ensures, below-length (read c .entry-sender .result) (listed (list at)), list-tests at .used)
 
 few : (c : tie.At-loop Inv-loop μ-loop) → c .loop .n ≤ maxNumbers
 few c = omega (arith, list-tests c .used, list-tests c .list .short)
 
 add-next : tie.Need-add-next Inv-loop μ-loop
-add-next c = omega (arith, place-small c, few (c .before .before .before .before))
+add-next c = omega (arith, place-small c, few (within (read c)))
 
 add-i : tie.Need-add-i Inv-loop μ-loop
 add-i c = search needs
 
 has-at-requires : tie.Need-has-at-requires Inv-loop μ-loop
-has-at-requires c κs = (c .before .before .before .before .before .loop .inv .1, c .before .place-near .ensures)
+has-at-requires c κs = (within (read (c .before)) .loop .inv .1, c .before .place-near .ensures)
 
 loop-less : tie.Need-loop-less Inv-loop μ-loop
 loop-less c = search needs
@@ -153,15 +170,16 @@ loop-again : tie.Need-loop-again Inv-loop μ-loop
 loop-again c =
     let at = turn (c .before) in
     let v = at .before .loop in
-    let sent = c .before .before .before .before .before .entry-sender in
+    let sent = read (c .before .before .before) .entry-sender in
     let there = mem-in (listed (list (at .before))) (sym (c .before .has-at .ensures) ∙ c .if1 .taken) in (
       search needs,
       v .inv .1,
-      known (now (outside at .before .before .args .tray)) (outside at .entry-count .result) (v .i) (sent .result) (list (at .before)) (at .loop-test .taken) (sent .ensures) (list-tests (at .before)) there ∙ v .inv .2,
+      known (now (outside at .before .before .args .tray)) (outside at .entry-count .result) (v .i) (sent .result)
+          (list (at .before)) (at .loop-test .taken) (sent .ensures) (list-tests (at .before)) there ∙ v .inv .2,
     )
 
 insert-at-requires : tie.Need-insert-at-requires Inv-loop μ-loop
-insert-at-requires c κs = (turn (c .before .before .before) .before .loop .inv .1, place-small (c .before .before .before .before .before), c .before .if2 .taken)
+insert-at-requires c κs = (turn (room c) .before .loop .inv .1, place-small (room c .before .before), c .before .if2 .taken)
 
 add-n : tie.Need-add-n Inv-loop μ-loop
 add-n c = search needs
@@ -171,12 +189,12 @@ loop-less-2 c = search needs
 
 loop-again-2 : tie.Need-loop-again-2 Inv-loop μ-loop
 loop-again-2 c =
-    let asked = c .before .before .before .before in
+    let asked = room (c .before) in
     let at = turn asked in
     let v = at .before .loop in
     let b = now (outside at .before .before .args .tray) in
     let n = outside at .entry-count .result in
-    let sent = asked .before .before .before .before .entry-sender in
+    let sent = read (asked .before .before) .entry-sender in
     let near = asked .before .before .place-near in
     let x = sent .result in
     let h = at .loop-test .taken in
@@ -184,8 +202,10 @@ loop-again-2 c =
     let more : Numbers = record { len = v .n + 1; at = c .insert-at .last .0 } in
     let above = positive b n (v .i) x (outside at .before .before .pre .2) (outside at .entry-count .ensures) h (sent .ensures) in (
       search needs,
-      stays-sound b n (v .i) x (list (at .before)) h (sent .ensures) (list-tests (at .before)) out more (near .result) (near .ensures) (c .insert-at .ensures) (c .before .before .if2 .taken) above,
-      left b n (v .i) x (list (at .before)) h (sent .ensures) (list-tests (at .before)) out more (near .result) (near .ensures) (c .insert-at .ensures) ∙ v .inv .2,
+      stays-sound b n (v .i) x (list (at .before)) h (sent .ensures) (list-tests (at .before)) out more
+          (near .result) (near .ensures) (c .insert-at .ensures) (c .before .before .if2 .taken) above,
+      left b n (v .i) x (list (at .before)) h (sent .ensures) (list-tests (at .before)) out more (near .result) (near .ensures)
+          (c .insert-at .ensures) ∙ v .inv .2,
     )
 
 add-result : tie.Need-add-result Inv-loop μ-loop
@@ -197,16 +217,19 @@ returns c =
     let at = turn asked in
     let v = at .before .loop in
     let a = outside at .before .before .args in
-    let sent = asked .before .before .before .before .entry-sender in
+    let sent = read (asked .before .before) .entry-sender in
     let out = mem-out (listed (list (at .before))) (sym (asked .has-at .ensures) ∙ c .before .if1 .left) in
-    let more = longer (now (a .tray)) (outside at .entry-count .result) (v .i) (sent .result) (list (at .before)) (at .loop-test .taken) (sent .ensures) (list-tests (at .before)) out in
-    full (insertAll (senders (entries (now (a .tray)))) (listed (record { len = a .len; at = now (a .heard) }))) (v .heard) (omega (arith, ap length (v .inv .2), c .if2 .left))
+    let more = longer (now (a .tray)) (outside at .entry-count .result) (v .i) (sent .result) (list (at .before))
+    (at .loop-test .taken) (sent .ensures) (list-tests (at .before)) out in
+    full (insertAll (senders (entries (now (a .tray)))) (listed (record { len = a .len; at = now (a .heard) })))
+    (v .heard) (omega (arith, ap length (v .inv .2), c .if2 .left))
 
 returns-2 : tie.Need-returns-2 Inv-loop μ-loop
 returns-2 c =
     let v = c .before .loop in
-    let a = c .before .before .before .before .args in
-    whole (list (c .before)) _ (v .inv .1) (sym (done (now (a .tray)) (c .before .before .entry-count .result) (v .i) (listed (list (c .before))) (c .loop-test .left)) ∙ v .inv .2)
+    let a = given (c .before) .args in
+    whole (list (c .before)) _ (v .inv .1)
+    (sym (done (now (a .tray)) (c .before .before .entry-count .result) (v .i) (listed (list (c .before))) (c .loop-test .left)) ∙ v .inv .2)
 
 pub hear-spec : {M : Type 1} → statement M
 hear-spec =

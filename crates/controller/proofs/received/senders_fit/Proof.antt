@@ -44,6 +44,13 @@ Inv-loop tray own count i₀ i = (i ≤ count) × (fit own (rest tray count i) �
 abbrev μ-loop : tie.MeasureT-loop
 μ-loop tray own count i₀ i = count - i
 
+-- what was given, and the turn in which a sender is read
+abbrev given : tie.At-loop Inv-loop μ-loop → tie.Start Inv-loop μ-loop
+given c = c .before .before .before
+
+abbrev turn : tie.After-entry-sender Inv-loop μ-loop → tie.At-loop Inv-loop μ-loop
+turn c = c .before .before
+
 entry-count-requires : tie.Need-entry-count-requires Inv-loop μ-loop
 entry-count-requires c κs = search needs
 
@@ -56,15 +63,21 @@ entry-sender-requires c κs = search needs
 
 returns : tie.Need-returns Inv-loop μ-loop
 returns c =
-    let v = c .before .before .before .loop in
-    let a = c .before .before .before .before .before .before .args in
-    nobody (now (a .tray)) (a .own) (c .before .before .before .before .entry-count .result) (v .i) _ (c .before .before .loop-test .taken) (c .before .entry-sender .ensures) (c .if1 .taken) ∙ v .inv .1
+    let read = c .before in
+    let at = turn read in
+    let v = at .loop in
+    let a = given at .args in
+    nobody (now (a .tray)) (a .own) (at .before .entry-count .result) (v .i) _ (read .before .loop-test .taken) (read .entry-sender .ensures)
+    (c .if1 .taken) ∙ v .inv .1
 
 returns-2 : tie.Need-returns-2 Inv-loop μ-loop
 returns-2 c =
-    let v = c .before .before .before .before .loop in
-    let a = c .before .before .before .before .before .before .before .args in
-    oneself (now (a .tray)) (a .own) (c .before .before .before .before .before .entry-count .result) (v .i) _ (c .before .before .before .loop-test .taken) (c .before .before .entry-sender .ensures) (c .if2 .taken) ∙ v .inv .1
+    let read = c .before .before in
+    let at = turn read in
+    let v = at .loop in
+    let a = given at .args in
+    oneself (now (a .tray)) (a .own) (at .before .entry-count .result) (v .i) _ (read .before .loop-test .taken) (read .entry-sender .ensures)
+    (c .if2 .taken) ∙ v .inv .1
 
 add-i : tie.Need-add-i Inv-loop μ-loop
 add-i c = search needs
@@ -74,14 +87,18 @@ loop-less c = search needs
 
 loop-again : tie.Need-loop-again Inv-loop μ-loop
 loop-again c =
-    let v = c .before .before .before .before .loop in
-    let a = c .before .before .before .before .before .before .before .args in
-    (search needs, another (now (a .tray)) (a .own) (c .before .before .before .before .before .entry-count .result) (v .i) _ (c .before .before .before .loop-test .taken) (c .before .before .entry-sender .ensures) (c .before .if1 .left) (c .if2 .left) ∙ v .inv .1)
+    let read = c .before .before in
+    let at = turn read in
+    let v = at .loop in
+    let a = given at .args in
+    let count = at .before .entry-count .result in
+    let more = another (now (a .tray)) (a .own) count (v .i) _ (read .before .loop-test .taken) (read .entry-sender .ensures) in
+    (search needs, more (c .before .if1 .left) (c .if2 .left) ∙ v .inv .1)
 
 returns-3 : tie.Need-returns-3 Inv-loop μ-loop
 returns-3 c =
     let v = c .before .loop in
-    let a = c .before .before .before .before .args in
+    let a = given (c .before) .args in
     done (now (a .tray)) (a .own) (c .before .before .entry-count .result) (v .i) (c .loop-test .left) ∙ v .inv .1
 
 pub senders-fit-spec : {M : Type 1} → statement M

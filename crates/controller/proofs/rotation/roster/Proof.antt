@@ -14,26 +14,25 @@ use lib.ListN.{length, getD, set, take, length-append, length-replicate}
 use lib.Seq.{take-suc, take-all, getD-take}
 use Rattle.controller.specs.Fields.{stateOf}
 use Rattle.controller.specs.Laws.Lists.{keep-append}
-use Rattle.controller.specs.Laws.Ready.{ready-listed, ready-used, ready-says}
-use Rattle.controller.specs.Laws.Storage.{opened-first, opened-stored, inserted-last}
+use Rattle.controller.specs.Laws.Work.Ready.{ready-listed, ready-used, ready-says}
+use Rattle.controller.specs.Laws.Work.Lists.{opened-first, opened-stored, inserted-last}
 use Rattle.controller.specs.Lists.{keep}
-use Rattle.controller.specs.Received.{received, says}
+use Rattle.controller.specs.Received.{says}
 use Rattle.controller.specs.Rotation.{roster}
-use Rattle.controller.specs.State.{view}
-use Rattle.controller.specs.Storage.{Ready, bitUnder}
+use Rattle.controller.specs.Work.Lists.{inPlaces}
+use Rattle.controller.specs.Work.Received.{receivedBy, Ready, bitUnder}
 use Rattle.controller.specs.declared.state.State.{State}
 use Rattle.wire.specs.Frame.{kindOf}
 use Rattle.wire.specs.Laws.Numbers.{listed-stored}
 use Rattle.wire.specs.Limits.{maxNumbers}
 use Rattle.wire.specs.Numbers.{stored, listed}
-use Rattle.wire.specs.Tray.{entries}
 use Rattle.wire.specs.declared.frame.Numbers.{Numbers}
 use Rattle.controller.proofs.rotation.roster.Statement.{statement}
 use Rattle.controller.proofs.rotation.roster.Tie as tie
 
 -- whether x sent init
 abbrev sent-init : State → List ℕ → ℕ → Bool
-sent-init s b x = says 1 2 (received (view s) (entries b) x)
+sent-init s b x = says 1 2 ((receivedBy s b) .from x)
 
 -- those of the first j heard that did
 abbrev senders : State → List ℕ → ℕ → List ℕ
@@ -47,7 +46,8 @@ module _ (f : ℕ → Bool) (l : List ℕ) (j : ℕ) (h : j < length l) where
   fails t = rw (add-one j, take-suc l j 0, keep-append, t) (append-nil (keep f (take j l)))
 
 -- a number behind a list that is not full
-pushed : (n : Numbers) (l : List ℕ) (x : ℕ) → n ≡ stored l → n .len < maxNumbers → _≡_ {A = Numbers} (record { len = n .len + 1; at = set (n .at) (n .len) x }) (stored (l ++ x ∷ []))
+pushed : (n : Numbers) (l : List ℕ) (x : ℕ) → n ≡ stored l → n .len < maxNumbers
+    → inPlaces (n .len + 1) (set (n .at) (n .len) x) ≡ stored (l ++ x ∷ [])
 pushed n l x e h =
     let same : listed n ≡ l = ap listed e ∙ listed-stored l in
     let back : stored (listed n) ≡ n = ap stored same ∙ sym e in
@@ -63,12 +63,13 @@ module _ {s : State} {b f : List ℕ} (ready : Ready s b f) (first : kindOf (s .
   asked : eqb d 2 ≡ sent-init s b (getD (listed (s .heard)) j 0)
   asked =
       ap (λ (i : ℕ). eqb i 2) read ∙ ready-says ready j 2 h (omega arith)
-      ∙ ap (λ (k : ℕ). says k 2 (received (view s) (entries b) (getD (listed (s .heard)) j 0))) first
+      ∙ ap (λ (k : ℕ). says k 2 ((receivedBy s b) .from (getD (listed (s .heard)) j 0))) first
 
   within : j < length (listed (s .heard))
   within = omega (arith, ready-used ready)
 
-  taken : d ≡ 2 → n .len < maxNumbers → _≡_ {A = Numbers} (record { len = n .len + 1; at = set (n .at) (n .len) (getD (s .heard .at) j 0) }) (stored (senders s b (j + 1)))
+  taken : d ≡ 2 → n .len < maxNumbers
+      → inPlaces (n .len + 1) (set (n .at) (n .len) (getD (s .heard .at) j 0)) ≡ stored (senders s b (j + 1))
   taken e room =
       pushed n (senders s b j) (getD (s .heard .at) j 0) list room
       ∙ ap stored (
@@ -84,14 +85,21 @@ Inv-loop fields heard tray firsts list₀ k₀ j₀ list k j =
     (j ≤ fields .heard)
     × (k ≤ j)
     × ((c e : List ℕ) → Ready (stateOf fields heard c e) tray firsts → kindOf (fields .round) ≡ 1
-    → _≡_ {A = Numbers} (record { len = k; at = list }) (stored (senders (stateOf fields heard c e) tray j)))
+    → inPlaces k list ≡ stored (senders (stateOf fields heard c e) tray j))
 
 abbrev μ-loop : tie.MeasureT-loop
 μ-loop fields heard tray firsts list₀ k₀ j₀ list k j = fields .heard - j
 
+-- what was given, from the loop; and the turn's begin, from where its bit was read
+abbrev given : tie.At-loop Inv-loop μ-loop → tie.Start Inv-loop μ-loop
+given c = c .before .before
+
+abbrev turn : tie.After-received-bit Inv-loop μ-loop → tie.Then1 Inv-loop μ-loop
+turn c = c .before .before .before
+
 -- a place of the list is one of 64
 inside : (c : tie.Then1 Inv-loop μ-loop) → c .before .before .loop .j < maxNumbers
-inside c = omega (arith, c .if1 .taken, c .before .before .before .before .pre .0)
+inside c = omega (arith, c .if1 .taken, given (c .before .before) .pre .0)
 
 loop-holds : tie.Need-loop-holds Inv-loop μ-loop
 loop-holds c = (omega arith, omega arith, λ x e ready first. ap (λ (s : List ℕ). record { len = 0; at = s }) (c .before .pre .1))
@@ -112,43 +120,44 @@ received-bit-requires : tie.Need-received-bit-requires Inv-loop μ-loop
 received-bit-requires c κs = search needs
 
 -- the next free place is one of 64 too
-free : (c : tie.Then2 Inv-loop μ-loop) → c .before .before .before .before .before .before .loop .k < maxNumbers
-free c = omega (arith, c .before .before .before .before .before .before .loop .inv .1, inside (c .before .before .before .before))
+free : (c : tie.Then1 Inv-loop μ-loop) → c .before .before .loop .k < maxNumbers
+free c = omega (arith, c .before .before .loop .inv .1, inside c)
 
 mul-list : tie.Need-mul-list Inv-loop μ-loop
-mul-list c = omega (arith, free c)
+mul-list c = omega (arith, free (turn (c .before)))
 
 element-write-list : tie.Need-element-write-list Inv-loop μ-loop
-element-write-list c = omega (arith, free c)
+element-write-list c = omega (arith, free (turn (c .before)))
 
 add-k : tie.Need-add-k Inv-loop μ-loop
-add-k c = omega (arith, free c)
+add-k c = omega (arith, free (turn (c .before)))
 
 add-j : tie.Need-add-j Inv-loop μ-loop
-add-j c = omega (arith, inside (c .before .before .before .before))
+add-j c = omega (arith, inside (turn (c .before)))
 
 loop-less : tie.Need-loop-less Inv-loop μ-loop
-loop-less c = omega (arith, c .before .before .before .before .if1 .taken)
+loop-less c = omega (arith, turn (c .before) .if1 .taken)
 
 loop-again : tie.Need-loop-again Inv-loop μ-loop
 loop-again c =
-    let v = c .before .before .before .before .before .before .loop in
-    let h = c .before .before .before .before .if1 .taken in
-    let room : v .k < maxNumbers = omega (arith, v .inv .1, inside (c .before .before .before .before)) in
+    let begun = turn (c .before) in
+    let v = begun .before .before .loop in
+    let list = inPlaces (v .k) (v .list) in
+    let h = begun .if1 .taken in
     elim (c .if2 .came) [
       | inl p ↦ (
         omega (arith, h),
         omega (arith, p .2, v .inv .1),
         λ x e ready first.
             (λ i. record { len = p .2 i; at = p .1 i })
-            ∙ taken ready first (v .j) _ h (c .before .received-bit .ensures) (record { len = v .k; at = v .list }) (v .inv .2 x e ready first) (p .0 .taken) room,
+            ∙ taken ready first (v .j) _ h (c .before .received-bit .ensures) list (v .inv .2 x e ready first) (p .0 .taken) (free begun),
       )
       | inr p ↦ (
         omega (arith, h),
         omega (arith, p .2, v .inv .1),
         λ x e ready first.
             (λ i. record { len = p .2 i; at = p .1 i })
-            ∙ left ready first (v .j) _ h (c .before .received-bit .ensures) (record { len = v .k; at = v .list }) (v .inv .2 x e ready first) (p .0 .left),
+            ∙ left ready first (v .j) _ h (c .before .received-bit .ensures) list (v .inv .2 x e ready first) (p .0 .left),
       )
     ]
 
@@ -156,9 +165,10 @@ returns : tie.Need-returns Inv-loop μ-loop
 unfolding roster
 returns c x e ready first =
     let v = c .before .before .loop in
-    let s = stateOf (c .before .before .before .before .args .fields) (now (c .before .before .before .before .args .heard)) x e in
+    let args = given (c .before .before) .args in
+    let s = stateOf (args .fields) (now (args .heard)) x e in
     v .inv .2 x e ready first
-    ∙ ap (λ (l : List ℕ). stored (keep (sent-init s (now (c .before .before .before .before .args .tray))) l))
+    ∙ ap (λ (l : List ℕ). stored (keep (sent-init s (now (args .tray))) l))
     (take-all (v .j) (listed (s .heard)) (omega (arith, c .if1 .left, ready-used ready)) ∙ ready-listed ready)
 
 pub roster-spec : {M : Type 1} → statement M

@@ -1,24 +1,54 @@
--- `controller::sound::is_list` meets its contract: each test that was passed, and the first that was not, gives `soundList` its value.
-use mathlib.Core.Path.{sym, _∙_}
+-- `controller::sound::is_list` meets its contract: it is the tests of `soundList` in their order.
+use mathlib.Core.Path.{_≡_}
+use native.Mathlib.Nat.{sub-zero}
 use borrow.Author.Needs.{needs}
 use borrow.Author.Tests.{le-leb, lt-leb}
+use denote.Ref.{now}
+use lib.ListN.{take}
+use Rattle.wire.specs.Limits.{maxNumbers}
+use Rattle.wire.specs.Numbers.{rising}
 use Rattle.controller.proofs.sound.is_list.Statement.{statement}
 use Rattle.controller.proofs.sound.is_list.Tie as tie
 
-rises-requires : tie.Need-rises-requires
-rises-requires c κs = search needs
+-- where the length fits
+abbrev fitting : tie.After-rise → tie.Then1
+fitting c = c .before .before
+
+-- the part that is lent has the used places
+rise-is : (c : tie.After-rise)
+    → let a = fitting c .before .before .args in
+    c .rise .result ≡ rising 0 (take (a .len) (now (a .at)))
+rise-is c = rw sub-zero at (c .rise .ensures)
+
+sub-rise : tie.Need-sub-rise
+sub-rise c = search needs
+
+part-rise-start : tie.Need-part-rise-start
+part-rise-start c = search needs
+
+part-rise-end : tie.Need-part-rise-end
+part-rise-end c = search needs
+
+rise-requires : tie.Need-rise-requires
+rise-requires c κs = search needs
 
 unused-zero-requires : tie.Need-unused-zero-requires
 unused-zero-requires c κs = search needs
 
 returns : tie.Need-returns
-returns c = rw (le-leb _ _ (c .before .before .before .before .before .if1 .taken), sym (c .before .before .before .rises .ensures) ∙ c .before .before .if2 .taken) (c .unused-zero .ensures)
+returns c = rw (le-leb _ maxNumbers (fitting (c .before) .if1 .taken), rise-is (c .before), c .unused-zero .ensures)
 
 returns-2 : tie.Need-returns-2
-returns-2 c = rw (le-leb _ _ (c .before .before .before .if1 .taken), sym (c .before .rises .ensures) ∙ c .if2 .left)
-
-returns-3 : tie.Need-returns-3
-returns-3 c = rw (lt-leb _ _ (c .if1 .left))
+returns-2 c = rw (lt-leb _ maxNumbers (c .if1 .left))
 
 pub is-list-spec : {M : Type 1} → statement M
-is-list-spec = tie.close (tie.spec rises-requires unused-zero-requires returns returns-2 returns-3)
+is-list-spec =
+    tie.close
+    (tie.spec
+    sub-rise
+    part-rise-start
+    part-rise-end
+    rise-requires
+    unused-zero-requires
+    returns
+    returns-2)

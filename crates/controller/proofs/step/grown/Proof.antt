@@ -1,6 +1,7 @@
--- `controller::step::grown` meets its contract: lists that fit, the bit and what (c) makes of them are the state of `makeValue`; lists that do not leave the state as it was.
+-- `controller::step::grown` meets its contract: lists that fit, the bit and what (c) makes of them are the state of `makeValue`;
+-- lists that do not leave the state as it was.
 use borrow.Author.Needs.{needs}
-use Rattle.controller.specs.Laws.Step.{value-made, value-refused}
+use Rattle.controller.specs.Laws.Work.Step.{value-made, value-refused}
 use Rattle.controller.proofs.step.grown.Statement.{statement}
 use Rattle.controller.proofs.step.grown.Tie as tie
 

@@ -2,9 +2,13 @@
 use native.Mathlib.Omega.{arith}
 use Rattle.controller.specs.Laws.Rules.{kind-before}
 use Rattle.controller.specs.Laws.State.{sound-gives}
-use Rattle.controller.specs.Laws.Step.{propose-made}
+use Rattle.controller.specs.Laws.Work.Step.{propose-made}
 use Rattle.controller.proofs.step.make_propose.Statement.{statement}
 use Rattle.controller.proofs.step.make_propose.Tie as tie
+
+-- the bits that were counted
+abbrev counted : tie.After-struct-known → tie.After-count-bits
+counted c = c .before .before
 
 count-bits-requires : tie.Need-count-bits-requires
 count-bits-requires c κs = c .before .pre .0
@@ -12,16 +16,16 @@ count-bits-requires c κs = c .before .pre .0
 proposal-requires : tie.Need-proposal-requires
 proposal-requires c κs =
     let few = c .before .before .pre .0 in
-    let counts = c .count-bits .ensures in
+    let counts = c .count-bits .ensures .0 in
     (omega (arith, few, counts .0), omega (arith, few, counts .1), few)
 
 add-next : tie.Need-add-next
-add-next c = omega (arith, c .before .before .before .before .pre .1)
+add-next c = omega (arith, counted c .before .before .pre .1)
 
 returns : tie.Need-returns
 returns c = λ w e ready k.
-    let values = rw (kind-before _ 0 (sound-gives _ (ready .sound) .early) k) at (c .before .before .count-bits .ensures .2 w e ready) in
-    propose-made ready (c .before .before .count-bits .result) _ k values (c .before .proposal .ensures)
+    let values = rw (kind-before _ 0 (sound-gives _ (ready .sound) .early) k) at (counted c .count-bits .ensures .1 w e ready) in
+    propose-made ready (counted c .count-bits .result) _ k values (c .before .proposal .ensures)
 
 pub make-propose-spec : {M : Type 1} → statement M
 make-propose-spec = tie.close (tie.spec count-bits-requires proposal-requires add-next returns)

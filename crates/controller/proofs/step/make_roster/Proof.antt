@@ -2,7 +2,7 @@
 use native.Mathlib.Omega.{arith}
 use Rattle.controller.specs.Laws.Rules.{kind-first}
 use Rattle.controller.specs.Laws.State.{sound-gives}
-use Rattle.controller.specs.Laws.Step.{roster-made}
+use Rattle.controller.specs.Laws.Work.Step.{roster-made}
 use Rattle.controller.proofs.step.make_roster.Statement.{statement}
 use Rattle.controller.proofs.step.make_roster.Tie as tie
 
@@ -10,10 +10,10 @@ roster-requires : tie.Need-roster-requires
 roster-requires c κs = (c .before .before .pre .0, c .before .before .pre .2)
 
 add-next : tie.Need-add-next
-add-next c = omega (arith, c .before .before .before .before .pre .1)
+add-next c = let asked = c .before .before in omega (arith, asked .before .before .pre .1)
 
 returns : tie.Need-returns
-returns c = λ w ready k. roster-made ready _ k (c .before .roster .ensures w _ ready (kind-first _ (sound-gives _ (ready .sound) .early) k))
+returns c = λ w e ready k. roster-made ready _ k (c .before .roster .ensures w e ready (kind-first _ (sound-gives _ (ready .sound) .early) k))
 
 pub make-roster-spec : {M : Type 1} → statement M
 make-roster-spec = tie.close (tie.spec roster-requires add-next returns)

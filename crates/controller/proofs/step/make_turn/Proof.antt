@@ -2,15 +2,19 @@
 use native.Mathlib.Omega.{arith}
 use denote.Ref.{now}
 use Rattle.wire.specs.Tray.{entries}
-use Rattle.controller.specs.Laws.Ready.{ready-size}
+use Rattle.controller.specs.Laws.Work.Ready.{ready-size}
 use Rattle.controller.specs.Laws.Rules.{kind-before}
 use Rattle.controller.specs.Laws.State.{sound-gives}
-use Rattle.controller.specs.Laws.Step.{turn-made}
+use Rattle.controller.specs.Laws.Work.Step.{turn-made}
 use Rattle.controller.proofs.step.make_turn.Statement.{statement}
 use Rattle.controller.proofs.step.make_turn.Tie as tie
 
+-- the bits that were counted, and what was given
+abbrev counted : tie.After-struct-known → tie.After-count-bits
+counted c = c .before .before
+
 abbrev given : tie.After-struct-known → tie.Start
-given c = c .before .before .before .before
+given c = counted c .before .before
 
 count-bits-requires : tie.Need-count-bits-requires
 count-bits-requires c κs = c .before .pre .0
@@ -18,7 +22,7 @@ count-bits-requires c κs = c .before .pre .0
 spoken-requires : tie.Need-spoken-requires
 spoken-requires c κs =
     let pre = c .before .before .pre in
-    let counts = c .count-bits .ensures in
+    let counts = c .count-bits .ensures .0 in
     (omega (arith, pre .0, counts .0), omega (arith, pre .0, counts .1), pre .0, pre .2)
 
 add-next : tie.Need-add-next
@@ -26,9 +30,9 @@ add-next c = omega (arith, (given c) .pre .1)
 
 returns : tie.Need-returns
 returns c = λ w e ready k.
-    let proposals = rw (kind-before _ 1 (sound-gives _ (ready .sound) .early) k) at (c .before .before .count-bits .ensures .2 w e ready) in
+    let proposals = rw (kind-before _ 1 (sound-gives _ (ready .sound) .early) k) at (counted c .count-bits .ensures .1 w e ready) in
     turn-made ready (c .before .spoken .result) k
-    (c .before .spoken .ensures (now ((given c) .args .heard)) w e (entries (now ((given c) .args .tray))) proposals (ready-size ready))
+    (c .before .spoken .ensures (now ((given c) .args .heard)) w e _ proposals (ready-size ready))
 
 pub make-turn-spec : {M : Type 1} → statement M
 make-turn-spec = tie.close (tie.spec count-bits-requires spoken-requires add-next returns)

@@ -3,7 +3,7 @@ use mathlib.Core.Bool.{and-false}
 use mathlib.Core.Path.{sym, _∙_}
 use borrow.Author.Needs.{needs}
 use borrow.Author.Tests.{eq-eqb, ne-eqb}
-use Rattle.controller.specs.Storage.{namedState}
+use Rattle.controller.specs.Work.Step.{namedState}
 use Rattle.controller.proofs.step.named.Statement.{statement}
 use Rattle.controller.proofs.step.named.Tie as tie
 
@@ -19,7 +19,8 @@ returns c = λ h e. rw (sym (c .before .decides .ensures) ∙ c .if1 .taken, and
 
 returns-2 : tie.Need-returns-2
 unfolding namedState
-returns-2 c = λ h e. rw (sym (c .before .before .before .decides .ensures) ∙ c .before .before .if1 .left, eq-eqb _ _ (c .before .if2 .taken), c .king-at .ensures)
+returns-2 c = λ h e.
+    rw (sym (c .before .before .before .decides .ensures) ∙ c .before .before .if1 .left, eq-eqb _ _ (c .before .if2 .taken), c .king-at .ensures)
 
 returns-3 : tie.Need-returns-3
 unfolding namedState

@@ -3,14 +3,18 @@ use Prim.Native.Nat.{ℕ, _+_}
 use mathlib.Core.Path.{_≡_, sym, _∙_}
 use native.Mathlib.Omega.{arith}
 use borrow.Author.Needs.{needs}
-use Rattle.controller.specs.Laws.Ready.{ready-few}
+use Rattle.controller.specs.Laws.Work.Ready.{ready-few}
 use Rattle.controller.specs.Laws.Rules.{kind-above}
 use Rattle.controller.specs.Laws.State.{sound-gives}
-use Rattle.controller.specs.Laws.Step.{echoes-empty}
+use Rattle.controller.specs.Laws.Work.Step.{echoes-empty}
 use Rattle.wire.specs.Frame.{kindOf}
 use Rattle.wire.specs.Laws.Frame.{kind-range}
 use Rattle.controller.proofs.step.step.Statement.{statement}
 use Rattle.controller.proofs.step.step.Tie as tie
+
+-- the kind of the next round, where it is neither 2 nor 3; and what was given
+abbrev next-kind : tie.Else2 → tie.After-kind-of
+next-kind c = c .before .before
 
 abbrev given : tie.After-kind-of → tie.Start
 given c = c .before .before .before
@@ -19,10 +23,10 @@ kind-is : (c : tie.After-kind-of) (k : ℕ) → c .kind-of .result ≡ k → kin
 kind-is c k e = sym (c .kind-of .ensures) ∙ e
 
 -- a round after the first whose kind is none of 2, 3, 4
-turns : (c : tie.Else3) → kindOf ((given (c .before .before .before)) .args .fields .round + 1) ≡ 5
+turns : (c : tie.Else3) → kindOf ((given (next-kind (c .before))) .args .fields .round + 1) ≡ 5
 turns c =
-    let start = given (c .before .before .before) in
-    let kind = c .before .before .before .kind-of .ensures in
+    let start = given (next-kind (c .before)) in
+    let kind = next-kind (c .before) .kind-of .ensures in
     let t = start .args .fields .round in
     let early = sound-gives _ (start .pre .0 .sound) .early in
     let range = kind-range (t + 1) in
@@ -36,31 +40,32 @@ kind-of-requires c κs = search needs
 
 make-roster-requires : tie.Need-make-roster-requires
 make-roster-requires c κs =
-    let pre = c .before .before .before .before .before .pre in
+    let pre = given (c .before .before) .pre in
     (ready-few (pre .0), pre .1, echoes-empty (pre .0) (kind-is (c .before .before) 2 (c .before .if1 .taken)))
 
 make-value-requires : tie.Need-make-value-requires
 make-value-requires c κs =
-    let kind = c .before .before .before .before in
-    ((given kind) .pre .0, kind-is kind 3 (c .before .before .if2 .taken), (given kind) .pre .1)
+    let at = c .before .before in
+    let kind = at .before .before in
+    ((given kind) .pre .0, kind-is kind 3 (at .if2 .taken), (given kind) .pre .1)
 
 make-propose-requires : tie.Need-make-propose-requires
-make-propose-requires c κs = let pre = (given (c .before .before .before)) .pre in (ready-few (pre .0), pre .1)
+make-propose-requires c κs = let pre = (given (next-kind (c .before))) .pre in (ready-few (pre .0), pre .1)
 
 make-turn-requires : tie.Need-make-turn-requires
-make-turn-requires c κs = let pre = (given (c .before .before .before)) .pre in (ready-few (pre .0), pre .1, sound-gives _ (pre .0 .sound) .bit)
+make-turn-requires c κs = let pre = (given (next-kind (c .before))) .pre in (ready-few (pre .0), pre .1, sound-gives _ (pre .0 .sound) .bit)
 
 returns : tie.Need-returns
-returns c = let kind = c .before .before .before in c .make-roster .ensures _ ((given kind) .pre .0) (kind-is kind 2 (c .before .before .if1 .taken))
+returns c = let kind = c .before .before .before in c .make-roster .ensures _ _ ((given kind) .pre .0) (kind-is kind 2 (c .before .before .if1 .taken))
 
 returns-2 : tie.Need-returns-2
 returns-2 c = c .make-value .ensures
 
 returns-3 : tie.Need-returns-3
-returns-3 c = let kind = c .before .before .before .before in c .make-propose .ensures _ _ ((given kind) .pre .0) (kind-is kind 4 (c .before .if3 .taken))
+returns-3 c = let kind = next-kind (c .before .before) in c .make-propose .ensures _ _ ((given kind) .pre .0) (kind-is kind 4 (c .before .if3 .taken))
 
 returns-4 : tie.Need-returns-4
-returns-4 c = c .make-turn .ensures _ _ ((given (c .before .before .before .before)) .pre .0) (turns (c .before))
+returns-4 c = c .make-turn .ensures _ _ ((given (next-kind (c .before .before))) .pre .0) (turns (c .before))
 
 pub step-spec : {M : Type 1} → statement M
 step-spec =

@@ -2,7 +2,7 @@
 use borrow.Author.Needs.{needs}
 use denote.Ref.{now}
 use Rattle.controller.specs.Fields.{stateOf}
-use Rattle.controller.specs.Laws.Grow.{sorted-grows, crowded-keeps}
+use Rattle.controller.specs.Laws.Work.Grow.{sorted-grows, crowded-keeps}
 use Rattle.controller.specs.declared.state.State.{State}
 use Rattle.controller.proofs.tally.grow.Statement.{statement}
 use Rattle.controller.proofs.tally.grow.Tie as tie

@@ -1,4 +1,5 @@
--- `controller::tally::settle` meets its contract: not at a third, or a candidate, the number changes nothing; else it is put in at its place, or is one too many.
+-- `controller::tally::settle` meets its contract: not at a third, or a candidate, the number changes nothing;
+-- else it is put in at its place, or is one too many.
 use Prim.Native.Nat.{ℕ, _*_, _≤_, _<_}
 use mathlib.Core.List.{List}
 use mathlib.Core.Path.{sym, _∙_}
@@ -8,18 +9,28 @@ use denote.Ref.{now}
 use lib.ListN.{length, take}
 use Rattle.controller.specs.Lists.{In}
 use Rattle.controller.specs.Laws.Lists.{mem-in, mem-out}
-use Rattle.controller.specs.Laws.Settle.{settles-few, settles-known, settles-crowds-echoes, settles-echoes, settles-crowds-candidates, settles-joins}
+use Rattle.controller.specs.Laws.Work.Settle.{settles-few, settles-known, settles-crowds-echoes, settles-echoes, settles-crowds-candidates, settles-joins}
 use Rattle.controller.specs.Laws.State.{ListTests, sound-list-gives}
-use Rattle.controller.specs.Laws.Storage.{below-length}
+use Rattle.controller.specs.Laws.Work.Lists.{below-length}
 use Rattle.controller.proofs.tally.settle.Statement.{statement}
 use Rattle.controller.proofs.tally.settle.Tie as tie
 
+-- from a call: what was given, where the place is known, and where the number is echoed
+abbrev asked : tie.After-place-from-arg2 → tie.Start
+asked c = c .before .before .before
+
+abbrev looked : tie.After-has-at → tie.After-place-from
+looked c = c .before .before
+
+abbrev other : tie.After-insert-at-arg2 → tie.After-insert-at
+other c = c .before .before .before
+
 -- what the function was given where the number is at a third, where its place is known, where it is no candidate, and where it is echoed
 abbrev start : tie.After-place-from → tie.Start
-start c = c .before .before .before .before
+start c = asked (c .before)
 
 abbrev placed : tie.Else2 → tie.After-place-from
-placed c = c .before .before .before .before
+placed c = looked (c .before)
 
 abbrev free : tie.After-insert-at → tie.Else2
 free c = c .before .before .before
@@ -40,7 +51,7 @@ third c =
     (enough, start c .pre .positive (omega (arith, start c .pre .some)))
 
 new : (c : tie.Else2) → ¬ In (start (placed c) .args .x) (list (start (placed c)))
-new c = mem-out (list (start (placed c))) (sym (c .before .stands-at .ensures) ∙ c .if2 .left)
+new c = mem-out (list (start (placed c))) (sym (c .before .has-at .ensures) ∙ c .if2 .left)
 
 mul-if1 : tie.Need-mul-if1
 mul-if1 c = search needs
@@ -49,17 +60,17 @@ returns : tie.Need-returns
 returns c v cs e was = settles-few was (omega (arith, c .if1 .taken))
 
 place-from-requires : tie.Need-place-from-requires
-place-from-requires c κs = let s = c .before .before .before in (tests s .list .rises, inside s, s .pre .place)
+place-from-requires c κs = let s = asked c in (tests s .list .rises, inside s, s .pre .place)
 
-stands-at-requires : tie.Need-stands-at-requires
-stands-at-requires c κs =
-    let at = c .before .before in
-    (tests (start at) .list .rises, inside (start at), at .place-from .ensures)
+has-at-requires : tie.Need-has-at-requires
+has-at-requires c κs =
+    let at = c .before in
+    (start at .pre .candidates, at .place-from .ensures)
 
 returns-2 : tie.Need-returns-2
 returns-2 c v cs e was =
-    let s = start (c .before .before .before .before) in
-    settles-known was (mem-in (list s) (sym (c .before .stands-at .ensures) ∙ c .if2 .taken))
+    let s = start (looked (c .before)) in
+    settles-known was (mem-in (list s) (sym (c .before .has-at .ensures) ∙ c .if2 .taken))
 
 crowded-requires : tie.Need-crowded-requires
 crowded-requires c κs = search needs
@@ -101,7 +112,7 @@ returns-5 c v cs e was =
 
 insert-at-requires-2 : tie.Need-insert-at-requires-2
 insert-at-requires-2 c κs =
-    let at = placed (free (c .before .before .before)) in
+    let at = placed (free (other c)) in
     let s = start at in
     (s .pre .candidates, omega (arith, at .place-from .ensures, below-length (s .args .x) (list s), tests s .used), c .before .if5 .left)
 
@@ -110,7 +121,7 @@ add-next c = search needs
 
 returns-6 : tie.Need-returns-6
 returns-6 c v cs e was =
-    let put = c .before .before .before .before in
+    let put = other (c .before) in
     let at = placed (free put) in
     settles-joins was (omega (arith, third at .0)) (new (free put)) (third at .1) (omega (arith, c .before .before .before .if4 .left))
     (put .before .before .if3 .left) (c .before .before .if5 .left) (at .place-from .ensures) (put .insert-at .ensures) (c .insert-at2 .ensures)
@@ -122,7 +133,7 @@ settle-spec =
     mul-if1
     returns
     place-from-requires
-    stands-at-requires
+    has-at-requires
     returns-2
     crowded-requires
     returns-3

@@ -6,8 +6,11 @@ use mathlib.Core.Path.{sym, _∙_}
 use native.Mathlib.Omega.{arith}
 use denote.Ref.{now}
 use lib.ListN.{getD, take}
-use Rattle.controller.specs.Laws.Walk.{weighed-most, weighed-positive, settles-none, Walking, walking-on, walking-end}
-use Rattle.controller.specs.Walk.{endMark, weighed, SettlesOn}
+use Rattle.controller.specs.Laws.Work.Walk.{settles-none, Walking, walking-on, walking-end}
+use Rattle.controller.specs.Laws.Work.Weights.{weighed-most, weighed-positive}
+use Rattle.controller.specs.Work.Opened.{endMark, weighed}
+use Rattle.controller.specs.Work.Tally.{SettlesOn}
+use Rattle.controller.specs.Work.Heads.{slots}
 use Rattle.controller.proofs.tally.settle_all.Statement.{statement}
 use Rattle.controller.proofs.tally.settle_all.Tie as tie
 
@@ -17,20 +20,36 @@ Inv-loop own tray starts counts sent len h known tree₀ nexts₀ at₀ echoed�
 
 abbrev μ-loop : tie.MeasureT-loop
 μ-loop own tray starts counts sent len h known tree₀ nexts₀ at₀ echoed₀ candidates₀ settled₀ key₀ tree nexts at echoed candidates settled key =
-    endMark - key / 128
+    endMark - key / slots
+
+-- what was given; the numbers behind the heads; the turn; the numbers that `pass` moved on, and the call of `settle`
+abbrev given : tie.After-line-up-arg3 Inv-loop μ-loop → tie.Start Inv-loop μ-loop
+given c = c .before .before .before .before .before .before .before .before .before .before .before
+
+abbrev nexts : tie.After-slice-known7 Inv-loop μ-loop → tie.After-nexts Inv-loop μ-loop
+nexts c = c .before .before .before .before
+
+abbrev asked : tie.After-pass-arg3 Inv-loop μ-loop → tie.In-loop Inv-loop μ-loop
+asked c = c .before .before .before
+
+abbrev moved : tie.After-slice-known10 Inv-loop μ-loop → tie.After-nexts2 Inv-loop μ-loop
+moved c = c .before .before .before
+
+abbrev called : tie.After-settle Inv-loop μ-loop → tie.After-slice-known10 Inv-loop μ-loop
+called c = c .before .before .before
 
 -- what the function was given; where the heads are lined up; the turn in which a number was passed; where it was passed
 abbrev outside : tie.After-line-up Inv-loop μ-loop → tie.Start Inv-loop μ-loop
-outside c = c .before .before .before .before .before .before .before .before .before .before .before .before
+outside c = given (c .before)
 
 abbrev lined : tie.At-loop Inv-loop μ-loop → tie.After-line-up Inv-loop μ-loop
-lined c = c .before .before .before .before .before .before .before .before
+lined c = nexts (c .before) .before .before .before
 
 abbrev turn : tie.After-pass Inv-loop μ-loop → tie.In-loop Inv-loop μ-loop
-turn c = c .before .before .before .before
+turn c = asked (c .before)
 
 abbrev passed : tie.After-settle Inv-loop μ-loop → tie.After-pass Inv-loop μ-loop
-passed c = c .before .before .before .before .before .before .before .before .before
+passed c = moved (called c) .before .before .before
 
 abbrev start : tie.At-loop Inv-loop μ-loop → tie.Start Inv-loop μ-loop
 start c = outside (lined c)
@@ -45,7 +64,7 @@ count c = let a = c .args in weighed (now (a .own)) (now (a .tray)) (now (a .sta
 -- the number that was passed is settled
 settles : (c : tie.After-settle Inv-loop μ-loop)
     → let s = start (turn (passed c) .before) in
-    SettlesOn (count s) (s .args .h) (list s) (turn (passed c) .before .loop .key / 128)
+    SettlesOn (count s) (s .args .h) (list s) (turn (passed c) .before .loop .key / slots)
     (c .settle .last .1 .1 .1 .1 .0) (c .settle .last .1 .1 .1 .1 .1 .0) (c .settle .result)
 settles c =
     let s = start (turn (passed c) .before) in
@@ -53,25 +72,25 @@ settles c =
 
 line-up-requires : tie.Need-line-up-requires Inv-loop μ-loop
 line-up-requires c κs =
-    let s = c .before .before .before .before .before .before .before .before .before .before .before in
+    let s = given c in
     ((now (s .args .sent), s .pre .0 .opens), s .pre .1)
 
 slice-read-key : tie.Need-slice-read-key Inv-loop μ-loop
 slice-read-key c =
-    let at = c .before .before .before .before .before .before .before in
-    omega (arith, c .before .before .before .before .before .before .tree .given, outside at .pre .1 .tree)
+    let at = nexts c .before .before .before in
+    omega (arith, nexts c .before .before .tree .given, outside at .pre .1 .tree)
 
 loop-holds : tie.Need-loop-holds Inv-loop μ-loop
 loop-holds c =
-    let at = c .before .before .before .before .before .before .before in
+    let at = nexts c .before .before .before in
     let s = outside at in
     let a = s .args in
     let pre = s .pre .0 in
     walking-on (now (a .own)) (now (a .tray)) (now (a .starts)) (now (a .counts)) (now (a .sent)) (a .len) (a .h) (list s) (pre .opens) (pre .some)
     0 _ _ _ _ _ _
     (record {
-      tree = omega (arith, c .before .before .before .before .before .before .tree .given, s .pre .1 .tree);
-      nexts = omega (arith, c .before .before .before .before .nexts .given, s .pre .1 .nexts);
+      tree = omega (arith, nexts c .before .before .tree .given, s .pre .1 .tree);
+      nexts = omega (arith, nexts c .nexts .given, s .pre .1 .nexts);
       places = omega (arith, c .before .before .at .given, s .pre .1 .places);
     })
     (at .line-up .ensures .0)
@@ -81,17 +100,24 @@ loop-holds c =
 
 pass-requires : tie.Need-pass-requires Inv-loop μ-loop
 pass-requires c κs =
-    let in-turn = c .before .before .before in
+    let in-turn = asked c in
     let inv = in-turn .before .loop .inv in
-    (start (in-turn .before) .pre .0 .opens, inv .room, inv .first, in-turn .loop-test .taken, inv .ordered, inv .standing)
+    record {
+      opens = start (in-turn .before) .pre .0 .opens;
+      room = inv .room;
+      least = inv .first;
+      some = in-turn .loop-test .taken;
+      ordered = inv .ordered;
+      standing = inv .standing;
+    }
 
 cast-x : tie.Need-cast-x Inv-loop μ-loop
-cast-x c = record { fits = omega (arith, turn (c .before .before .before .before .before .before) .loop-test .taken) }
+cast-x c = record { fits = omega (arith, turn (moved c .before .before .before) .loop-test .taken) }
 
 settle-requires : tie.Need-settle-requires Inv-loop μ-loop
 settle-requires c κs =
-    let at = c .before .before .before .before .before .before .before .before in
-    let x = turn at .before .loop .key / 128 in
+    let at = moved (c .before .before) .before .before .before in
+    let x = turn at .before .loop .key / slots in
     let inv = turn at .before .loop .inv .settles in
     let s = start (turn at .before) in
     let a = s .args in
@@ -122,14 +148,14 @@ loop-again c =
     let a = s .args in
     let pre = s .pre .0 in
     let pass = at .pass .ensures in
-    let later : loop .key / 128 + 1 ≤ getD (at .pass .last .1 .1 .1 .1 .1 .1 .1 .0) 1 0 / 128 = omega (arith, pass .later, pass .first) in
+    let later : loop .key / slots + 1 ≤ getD (at .pass .last .1 .1 .1 .1 .1 .1 .1 .0) 1 0 / slots = omega (arith, pass .later, pass .first) in
     rw (pass .first)
     (walking-on (now (a .own)) (now (a .tray)) (now (a .starts)) (now (a .counts)) (now (a .sent)) (a .len) (a .h) (list s) (pre .opens) (pre .some)
-    (loop .key / 128 + 1) _ _ _ _ _ (end .settle .result)
+    (loop .key / slots + 1) _ _ _ _ _ (end .settle .result)
     (record {
-      tree = omega (arith, end .before .before .before .before .before .before .before .before .tree2 .given, loop .inv .room .tree);
-      nexts = omega (arith, end .before .before .before .before .before .before .nexts2 .given, loop .inv .room .nexts);
-      places = omega (arith, end .before .before .before .before .at2 .given, loop .inv .room .places);
+      tree = omega (arith, moved (called end) .before .before .tree2 .given, loop .inv .room .tree);
+      nexts = omega (arith, moved (called end) .nexts2 .given, loop .inv .room .nexts);
+      places = omega (arith, called end .before .at2 .given, loop .inv .room .places);
     })
     (pass .ordered)
     (pass .standing)
@@ -139,18 +165,18 @@ loop-again c =
 same-length : tie.Need-same-length Inv-loop μ-loop
 same-length c =
     let at-loop = turn (passed (c .before)) .before in
-    let size = c .before .before .before .before .before .before .before .before .before .tree2 .given in
+    let size = moved (called (c .before)) .before .before .tree2 .given in
     omega (arith, size, at-loop .loop .inv .room .tree, start at-loop .pre .1 .tree)
 
 same-length-2 : tie.Need-same-length-2 Inv-loop μ-loop
 same-length-2 c =
     let at-loop = turn (passed (c .before)) .before in
-    omega (arith, c .before .before .before .before .before .before .before .nexts2 .given, at-loop .loop .inv .room .nexts, start at-loop .pre .1 .nexts)
+    omega (arith, moved (called (c .before)) .nexts2 .given, at-loop .loop .inv .room .nexts, start at-loop .pre .1 .nexts)
 
 same-length-3 : tie.Need-same-length-3 Inv-loop μ-loop
 same-length-3 c =
     let at-loop = turn (passed (c .before)) .before in
-    omega (arith, c .before .before .before .before .before .at2 .given, at-loop .loop .inv .room .places, start at-loop .pre .1 .places)
+    omega (arith, called (c .before) .before .at2 .given, at-loop .loop .inv .room .places, start at-loop .pre .1 .places)
 
 returns : tie.Need-returns Inv-loop μ-loop
 returns c =

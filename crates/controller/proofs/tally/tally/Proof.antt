@@ -1,29 +1,38 @@
 -- `controller::tally::tally` meets its contract: the open lists count as the received ones do, so that what is sorted along them is sorted by the tally.
 use Prim.Native.Nat.{ℕ}
 use mathlib.Core.List.{[]}
-use mathlib.Core.Path.{_≡_, refl, _∙_}
+use mathlib.Core.Path.{_≡_, refl, ap, _∙_}
 use native.Mathlib.Omega.{arith}
 use borrow.Author.Needs.{needs}
 use denote.Ref.{now}
 use Rattle.wire.specs.Tray.{entries}
 use Rattle.controller.specs.Fields.{stateOf}
+use Rattle.controller.specs.Received.{ReceivedLists, lists}
 use Rattle.controller.specs.Rotation.{tally}
 use Rattle.controller.specs.State.{view}
-use Rattle.controller.specs.Walk.{weighed}
-use Rattle.controller.specs.Laws.Opened.{tally-else}
-use Rattle.controller.specs.Laws.Ready.{ready-size, ready-few}
+use Rattle.controller.specs.Work.Opened.{weighed}
+use Rattle.controller.specs.Work.Received.{receivedBy}
+use Rattle.controller.specs.Laws.Work.Opened.{lists-else}
+use Rattle.controller.specs.Laws.Work.Ready.{ready-size, ready-few}
 use Rattle.controller.specs.Laws.Received.{heard-some}
 use Rattle.controller.specs.Laws.State.{sound-gives, sound-candidates}
 use Rattle.controller.specs.declared.state.State.{State}
 use Rattle.controller.proofs.tally.tally.Statement.{statement}
 use Rattle.controller.proofs.tally.tally.Tie as tie
 
+-- what was given, and what is asked of `walk`
+abbrev given : tie.After-sent → tie.Start
+given c = c .before .before .before .before .before
+
+abbrev asked : tie.After-walk-arg2 → tie.After-open-lists
+asked c = c .before .before .before .before .before .before .before .before
+
 -- what the function was given, and where the lists are open
 abbrev start : tie.After-open-lists → tie.Start
-start c = c .before .before .before .before .before .before
+start c = given (c .before)
 
 abbrev opened : tie.After-walk → tie.After-open-lists
-opened c = c .before .before .before .before .before .before .before .before .before
+opened c = asked (c .before)
 
 abbrev state : tie.Start → State
 state c = stateOf (c .args .fields) (now (c .args .heard)) (now (c .args .candidates)) (now (c .args .own))
@@ -34,10 +43,11 @@ count c =
     weighed (now (start c .args .own)) (now (start c .args .tray)) (c .open-lists .last .1 .1 .1 .1 .1 .0) (c .open-lists .last .1 .1 .1 .1 .1 .1 .0)
     (c .open-lists .last .1 .1 .1 .1 .1 .1 .1 .0) (c .open-lists .result)
 
-counts : (c : tie.After-open-lists) → count c ≡ tally (view (state (start c))) (entries (now (start c .args .tray)))
+counts : (c : tie.After-open-lists) → count c ≡ tally (lists (receivedBy (state (start c)) (now (start c .args .tray))))
 counts c i x =
     let a = start c .args in
-    (c .open-lists .ensures .counted x ∙ tally-else (a .fields) (now (a .heard)) [] (now (a .candidates)) (now (a .own)) (entries (now (a .tray))) x) i
+    (c .open-lists .ensures .counted x
+    ∙ ap (λ (l : ReceivedLists). tally l x) (lists-else (a .fields) (now (a .heard)) [] (now (a .candidates)) (now (a .own)) (now (a .tray)))) i
 
 slice-aggregate-open-lists : tie.Need-slice-aggregate-open-lists
 slice-aggregate-open-lists c = search needs
@@ -50,7 +60,7 @@ slice-aggregate-open-lists-3 c = search needs
 
 open-lists-requires : tie.Need-open-lists-requires
 open-lists-requires c κs =
-    let s = c .before .before .before .before .before in
+    let s = given c in
     record { candidates = now (s .args .candidates); ready = s .pre .0; starts = refl; counts = refl; weights = refl; first = refl; fresh = refl }
 
 slice-aggregate-walk : tie.Need-slice-aggregate-walk
@@ -64,7 +74,7 @@ slice-aggregate-walk-3 c = search needs
 
 walk-requires : tie.Need-walk-requires
 walk-requires c κs =
-    let at = c .before .before .before .before .before .before .before .before in
+    let at = asked c in
     let s = start at in
     record {
       opens = at .open-lists .ensures .opens;

@@ -7,12 +7,19 @@ use Rattle.controller_c.specs.Laws.Image.{shaped-length}
 use Rattle.controller_c.proofs.image.is_sound_image.Statement.{statement}
 use Rattle.controller_c.proofs.image.is_sound_image.Tie as tie
 
+-- a shaped image, and its parts
+abbrev fits : tie.After-echoes → tie.Then1
+fits c = c .before .before .before
+
+abbrev parts : tie.After-echoes2 → tie.After-take-apart
+parts c = c .before .before .before
+
 is-shaped-requires : tie.Need-is-shaped-requires
 is-shaped-requires c κs = search needs
 
 take-apart-requires : tie.Need-take-apart-requires
 take-apart-requires c κs =
-    let shaped = c .before .before .before in
+    let shaped = fits c in
     (shaped-length _ (sym (shaped .before .is-shaped .ensures) ∙ shaped .if1 .taken), refl, refl, refl)
 
 is-sound-requires : tie.Need-is-sound-requires
@@ -21,8 +28,8 @@ is-sound-requires c κs = search needs
 returns : tie.Need-returns
 unfolding soundImage
 returns c =
-    let taken = c .before .before .before .before in
-    let shaped = taken .before .before .before .before in
+    let taken = parts (c .before) in
+    let shaped = fits (taken .before) in
     rw (sym (shaped .before .is-shaped .ensures) ∙ shaped .if1 .taken) (c .is-sound .ensures ∙ ap sound (taken .take-apart .ensures))
 
 returns-2 : tie.Need-returns-2

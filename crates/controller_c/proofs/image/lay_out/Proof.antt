@@ -16,8 +16,9 @@ use Rattle.controller_c.proofs.image.lay_out.Statement.{statement}
 use Rattle.controller_c.proofs.image.lay_out.Tie as tie
 
 laid : (s : State) (b : List ℕ) → SizedLists s → length b ≡ imageBytes
-    → sets (sets (sets (sets (sets b 0 (headBytes s)) heardAt (listBytes (s .heard))) candidatesAt (listBytes (s .candidates))) echoesAt (listBytes (s .echoes))) reservedAt (zerosFrom reservedAt)
-    ≡ laidOut s
+    → let two = sets (sets b 0 (headBytes s)) heardAt (listBytes (s .heard)) in
+    let four = sets (sets two candidatesAt (listBytes (s .candidates))) echoesAt (listBytes (s .echoes)) in
+    sets four reservedAt (zerosFrom reservedAt) ≡ laidOut s
 unfolding laidOut
 laid s b z n =
     let heard = list-bytes-length (s .heard) (z .heard) in
@@ -49,12 +50,15 @@ same-length c = search needs
 returns : tie.Need-returns
 unfolding zerosFrom
 returns c =
-    let start = c .before .before .before .before .before .before .before .before .before .before .before .before .before in
+    let asked = c .before .before .before in
+    let lists = asked .before .before .before in
+    let after-head = lists .before in
+    let head = after-head .before .before .before in
+    let start = head .before .before .before in
     let a = start .args in
     let s = stateOf (a .fields) (now (a .heard)) (now (a .candidates)) (now (a .echoes)) in
     c .before .before .clear .ensures
-    ∙ rw (c .before .before .before .before .before .before .put-lists .ensures, c .before .before .before .before .before .before .before .before .before .before .put-head .ensures)
-    (laid s (now (a .image)) (sound-sized s (start .pre .0)) (start .pre .1))
+    ∙ rw (lists .put-lists .ensures, head .put-head .ensures) (laid s (now (a .image)) (sound-sized s (start .pre .0)) (start .pre .1))
 
 pub lay-out-spec : {M : Type 1} → statement M
 lay-out-spec =

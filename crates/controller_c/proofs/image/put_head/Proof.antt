@@ -6,6 +6,16 @@ use lib.ListN.{length-set}
 use Rattle.controller_c.proofs.image.put_head.Statement.{statement}
 use Rattle.controller_c.proofs.image.put_head.Tie as tie
 
+-- the first number is stored, the second, and the third
+abbrev first : tie.After-put-word-arg2 → tie.After-put-word
+first c = c .before .before .before
+
+abbrev second : tie.After-put-word-arg3 → tie.After-put-word2
+second c = c .before .before .before
+
+abbrev third : tie.After-slice-known4 → tie.After-put-word-arg3
+third c = c .before .before .before
+
 put-word-requires : tie.Need-put-word-requires
 put-word-requires c κs = search needs
 
@@ -31,8 +41,8 @@ same-length : tie.Need-same-length
 same-length c =
     simp length-set
     (simp length-set at (c .before .before .put-word3 .kept .0)
-    ∙ c .before .before .before .before .before .before .put-word2 .kept .0
-    ∙ c .before .before .before .before .before .before .before .before .before .before .put-word .kept .0)
+    ∙ second (third c) .put-word2 .kept .0
+    ∙ first (second (third c) .before) .put-word .kept .0)
 
 returns : tie.Need-returns
 returns c = cc

@@ -24,7 +24,8 @@ use Rattle.controller_c.proofs.image.put_list.Tie as tie
 puts : (n : Numbers) (b b₁ b₂ b₃ : List ℕ) (from : ℕ) → soundList n ≡ true
     → b₁ ≡ sets b from (wordBytes (n .len))
     → b₂ ≡ sets b₁ (from + countBytes) (wordsBytes (listed n))
-    → b₃ ≡ sets b₂ (from + countBytes + numberWidth * n .len) (replicate (from + countBytes + numberWidth * maxNumbers - (from + countBytes + numberWidth * n .len)) 0)
+    → let end = from + countBytes + numberWidth * n .len in
+    b₃ ≡ sets b₂ end (replicate (from + countBytes + numberWidth * maxNumbers - end) 0)
     → b₃ ≡ sets b from (listBytes n)
 puts n b b₁ b₂ b₃ from h e₁ e₂ e₃ =
     let first = from + countBytes in
@@ -39,6 +40,19 @@ puts n b b₁ b₂ b₃ from h e₁ e₂ e₃ =
     (join-at (sets b from (wordBytes (n .len))) first (first + numberWidth * n .len) places zeros (omega arith)
     ∙ join-at b from first (wordBytes (n .len)) (places ++ zeros) (omega arith)
     ∙ ap (λ (l : List ℕ). sets b from (wordBytes (n .len) ++ l)) (sym (stored-bytes n h)))
+
+-- what was given; the count is stored, the places, and the zeros
+abbrev given : tie.After-put-word → tie.Start
+given c = c .before .before .before
+
+abbrev counted : tie.After-put-places-arg → tie.After-put-word
+counted c = c .before .before .before
+
+abbrev placed : tie.After-clear-arg → tie.After-put-places
+placed c = c .before .before .before
+
+abbrev cleared : tie.After-slice-known4 → tie.After-clear-arg
+cleared c = c .before .before .before
 
 -- the list that is lent
 abbrev list : tie.Start → Numbers
@@ -58,15 +72,15 @@ put-word-requires c κs = search needs
 
 put-places-requires : tie.Need-put-places-requires
 put-places-requires c κs =
-    let z = sized (c .before .before .before .before .before .before) in
+    let z = sized (given (counted c)) in
     let few = z .few in
     (few, z .places, search needs)
 
 mul-clear : tie.Need-mul-clear
-mul-clear c = omega (arith, sized (c .before .before .before .before .before .before .before .before .before .before) .few)
+mul-clear c = omega (arith, sized (given (counted (placed c .before))) .few)
 
 add-clear : tie.Need-add-clear
-add-clear c = omega (arith, sized (c .before .before .before .before .before .before .before .before .before .before) .few)
+add-clear c = omega (arith, sized (given (counted (placed c .before))) .few)
 
 mul-clear-2 : tie.Need-mul-clear-2
 mul-clear-2 c = search needs
@@ -75,18 +89,19 @@ add-clear-2 : tie.Need-add-clear-2
 add-clear-2 c = search needs
 
 clear-requires : tie.Need-clear-requires
-clear-requires c κs = omega (arith, sized (c .before .before .before .before .before .before .before .before .before .before) .few)
+clear-requires c κs = omega (arith, sized (given (counted (placed c .before))) .few)
 
 same-length : tie.Need-same-length
 same-length c = search needs
 
 returns : tie.Need-returns
 returns c =
-    let placed = c .before .before .before .before .before .before in
-    let counted = placed .before .before .before .before in
-    let start = counted .before .before .before in
-    puts (list start) (now (start .args .image)) (counted .put-word .last .0) (placed .put-places .last .0) (c .before .before .clear .last .0) (start .args .from) (start .pre .1)
-    (counted .put-word .ensures) (placed .put-places .ensures) (c .before .before .clear .ensures)
+    let places = placed (cleared c) in
+    let count = counted (places .before) in
+    let start = given count in
+    puts (list start) (now (start .args .image)) (count .put-word .last .0) (places .put-places .last .0)
+    (c .before .before .clear .last .0) (start .args .from) (start .pre .1)
+    (count .put-word .ensures) (places .put-places .ensures) (c .before .before .clear .ensures)
 
 pub put-list-spec : {M : Type 1} → statement M
 put-list-spec =

@@ -7,6 +7,16 @@ use Rattle.controller_c.specs.Laws.Image.{SoundLists, sound-lists}
 use Rattle.controller_c.proofs.image.put_lists.Statement.{statement}
 use Rattle.controller_c.proofs.image.put_lists.Tie as tie
 
+-- what was given; the first list is stored, and the second
+abbrev given : tie.After-put-list → tie.Start
+given c = c .before .before .before
+
+abbrev first : tie.After-put-list-arg2 → tie.After-put-list
+first c = c .before .before .before
+
+abbrev second : tie.After-put-list-arg3 → tie.After-put-list2
+second c = c .before .before .before
+
 -- the state that is lent in parts
 abbrev state : tie.Start → State
 state c = stateOf (c .args .fields) (now (c .args .heard)) (now (c .args .candidates)) (now (c .args .echoes))
@@ -18,10 +28,10 @@ put-list-requires : tie.Need-put-list-requires
 put-list-requires c κs = (search needs, lists (c .before .before) .heard)
 
 put-list-requires-2 : tie.Need-put-list-requires-2
-put-list-requires-2 c κs = (search needs, lists (c .before .before .before .before .before .before) .candidates)
+put-list-requires-2 c κs = (search needs, lists (given (first c)) .candidates)
 
 put-list-requires-3 : tie.Need-put-list-requires-3
-put-list-requires-3 c κs = (search needs, lists (c .before .before .before .before .before .before .before .before .before .before) .echoes)
+put-list-requires-3 c κs = (search needs, lists (given (first (second c .before))) .echoes)
 
 same-length : tie.Need-same-length
 same-length c = search needs

@@ -11,7 +11,7 @@ use lib.ListN.{length, getD}
 use lib.Seq.{sets, slice, slice-cons, slice-empty}
 use Rattle.wire.specs.Limits.{numberWidth}
 use Rattle.wire.specs.Words.{wordBytes, wordsBytes}
-use Rattle.controller_c.proofs.Stores.{sets-join}
+use Rattle.wire.specs.Laws.Stores.{sets-join}
 use Rattle.controller_c.proofs.image.put_places.Statement.{statement}
 use Rattle.controller_c.proofs.image.put_places.Tie as tie
 
@@ -36,6 +36,16 @@ Inv-loop image₀ from at len i₀ image i =
 
 abbrev μ-loop : tie.MeasureT-loop
 μ-loop image₀ from at len i₀ image i = len - i
+
+-- what was given; the turn in which a number is stored
+abbrev given : tie.At-loop Inv-loop μ-loop → tie.Start Inv-loop μ-loop
+given c = c .before .before
+
+abbrev asked : tie.After-put-word-arg2 Inv-loop μ-loop → tie.At-loop Inv-loop μ-loop
+asked c = c .before .before .before
+
+abbrev stored : tie.After-slice-known2 Inv-loop μ-loop → tie.After-put-word-arg2 Inv-loop μ-loop
+stored c = c .before .before .before
 
 loop-holds : tie.Need-loop-holds Inv-loop μ-loop
 loop-holds c = (search needs, refl, rw add-zero)
@@ -63,8 +73,8 @@ loop-less c = search needs
 
 loop-again : tie.Need-loop-again Inv-loop μ-loop
 loop-again c =
-    let v = c .before .before .before .before .before .before .loop in
-    let a = c .before .before .before .before .before .before .before .before .args in
+    let v = asked (stored c) .loop in
+    let a = given (asked (stored c)) .args in
     let l = now (a .at) in
     let put = c .before .before .put-word in
     (search needs, search needs, turn l (a .len) (v .i) (v .image) (put .last .0) (a .from) (search needs) (search needs) (put .ensures) ∙ v .inv .2)
@@ -75,7 +85,7 @@ same-length c = search needs
 returns : tie.Need-returns Inv-loop μ-loop
 returns c =
     let v = c .before .loop in
-    let a = c .before .before .before .args in
+    let a = given (c .before) .args in
     rw (done (now (a .at)) (a .len) (v .i) (omega arith)) at (v .inv .2)
 
 pub put-places-spec : {M : Type 1} → statement M

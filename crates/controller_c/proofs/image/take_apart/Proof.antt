@@ -2,7 +2,7 @@
 use borrow.Author.Needs.{needs}
 use denote.Ref.{now}
 use lib.ListN.{getD}
-use Rattle.controller_c.specs.Image.{bitAt, saidAt, strongAt, decisionAt}
+use Rattle.controller_c.specs.Image.{ownBitAt, saidAt, strongAt, decisionAt}
 use Rattle.controller_c.proofs.image.take_apart.Statement.{statement}
 use Rattle.controller_c.proofs.image.take_apart.Tie as tie
 
@@ -39,7 +39,8 @@ shared-slice-read-t21 c = search needs
 returns : tie.Need-returns
 returns c =
     let king = c .before in
-    let round = king .before .before .before .before in
+    let bits = king .before .before in
+    let round = bits .before .before in
     let own = round .before in
     let echoes = own .before in
     let candidates = echoes .before .before in
@@ -49,7 +50,7 @@ returns c =
     record {
       own = own .word .ensures i;
       round = round .word2 .ensures i;
-      bit = getD b bitAt 0;
+      bit = getD b ownBitAt 0;
       said = getD b saidAt 0;
       strong = getD b strongAt 0;
       king = king .word3 .ensures i;

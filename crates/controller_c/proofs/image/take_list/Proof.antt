@@ -30,7 +30,8 @@ module _ (b none at : List ℕ) (from n : ℕ) (e : none ≡ replicate maxNumber
       ∙ sets-whole (replicate n 0) (wordsAt b from n) (words-length b from n ∙ sym (length-replicate n 0))
       ∙ ap (wordsAt b from) k
 
-list-is : (b at : List ℕ) (from len : ℕ) → len ≡ wordAt b from → at ≡ placesAt b (from + countBytes) → _≡_ {A = Numbers} (record { len = len; at = at }) (listAt b from)
+list-is : (b at : List ℕ) (from len : ℕ) → len ≡ wordAt b from → at ≡ placesAt b (from + countBytes)
+    → _≡_ {A = Numbers} (record { len = len; at = at }) (listAt b from)
 list-is b at from len e f = λ i. record { len = e i; at = f i }
 
 word-requires : tie.Need-word-requires

@@ -36,6 +36,10 @@ Inv-loop image from count at₀ i₀ at i =
 abbrev μ-loop : tie.MeasureT-loop
 μ-loop image from count at₀ i₀ at i = count - i
 
+-- what was given
+abbrev given : tie.At-loop Inv-loop μ-loop → tie.Start Inv-loop μ-loop
+given c = c .before .before
+
 loop-holds : tie.Need-loop-holds Inv-loop μ-loop
 loop-holds c =
     let a = c .before .args in
@@ -65,13 +69,13 @@ loop-less c = search needs
 loop-again : tie.Need-loop-again Inv-loop μ-loop
 loop-again c =
     let v = c .before .before .loop in
-    let a = c .before .before .before .before .args in
+    let a = given (c .before .before) .args in
     (search needs, puts (now (a .image)) (a .from) (a .count) (v .i) (c .word .result) (v .at) (search needs) (c .word .ensures) ∙ v .inv .1)
 
 returns : tie.Need-returns Inv-loop μ-loop
 returns c =
     let v = c .before .loop in
-    let a = c .before .before .before .args in
+    let a = given (c .before) .args in
     rw (done (now (a .image)) (a .from) (a .count) (v .i) (search needs)) at (v .inv .1)
 
 pub take-places-spec : {M : Type 1} → statement M

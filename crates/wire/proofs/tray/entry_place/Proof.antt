@@ -8,7 +8,7 @@ use Rattle.wire.specs.Tray.{place}
 use Rattle.wire.proofs.tray.entry_place.Statement.{statement}
 use Rattle.wire.proofs.tray.entry_place.Tie as tie
 
-within : (c : tie.Then1) → InDirectory (now (c .before .before .before .args .tray)) (c .before .before .before .args .i)
+within : (c : tie.Then1) → let a = c .before .before .before .args in InDirectory (now (a .tray)) (a .i)
 within c = in-directory-gives _ _ (sym (c .before .in-directory .ensures) ∙ c .if1 .taken)
 
 in-directory-requires : tie.Need-in-directory-requires

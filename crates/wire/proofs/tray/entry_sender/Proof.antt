@@ -1,27 +1,30 @@
 -- `wire::tray::entry_sender` meets its contract: within the directory the entry lies in the tray, so its sender can be read.
+use Prim.Native.Nat.{_+_, _≤_}
 use mathlib.Core.Path.{sym, _∙_}
 use native.Mathlib.Omega.{arith}
 use borrow.Author.Needs.{needs}
 use denote.Ref.{now}
-use Rattle.wire.specs.Laws.Tray.{InDirectory, in-directory-gives}
-use Rattle.wire.specs.Tray.{sender}
+use lib.ListN.{length}
+use Rattle.wire.specs.Laws.Tray.{in-directory-gives}
+use Rattle.wire.specs.Tray.{entryAt, sender}
 use Rattle.wire.proofs.tray.entry_sender.Statement.{statement}
 use Rattle.wire.proofs.tray.entry_sender.Tie as tie
 
-within : (c : tie.Then1) → InDirectory (now (c .before .before .before .args .tray)) (c .before .before .before .args .i)
-within c = in-directory-gives _ _ (sym (c .before .in-directory .ensures) ∙ c .if1 .taken)
+-- it ends within the tray
+whole : (c : tie.Then1) → let a = c .before .before .before .args in entryAt (a .i + 1) ≤ length (now (a .tray))
+whole c = in-directory-gives _ _ (sym (c .before .in-directory .ensures) ∙ c .if1 .taken) .whole
 
 in-directory-requires : tie.Need-in-directory-requires
 in-directory-requires c κs = search needs
 
 mul-word : tie.Need-mul-word
-mul-word c = omega (arith, within c .whole)
+mul-word c = omega (arith, whole c)
 
 add-word : tie.Need-add-word
-add-word c = omega (arith, within c .whole)
+add-word c = omega (arith, whole c)
 
 word-requires : tie.Need-word-requires
-word-requires c κs = omega (arith, within c .whole)
+word-requires c κs = omega (arith, whole c)
 
 returns : tie.Need-returns
 unfolding sender

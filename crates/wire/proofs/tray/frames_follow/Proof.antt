@@ -31,6 +31,10 @@ Inv-loop tray count end₀ i₀ end i = (i ≤ count) × (chained tray (count - 
 abbrev μ-loop : tie.MeasureT-loop
 μ-loop tray count end₀ i₀ end i = count - i
 
+-- the turn in which a length is read
+abbrev read : tie.After-half Inv-loop μ-loop → tie.At-loop Inv-loop μ-loop
+read c = c .before .before
+
 mul-end : tie.Need-mul-end Inv-loop μ-loop
 mul-end c = search needs
 
@@ -53,7 +57,11 @@ half-requires : tie.Need-half-requires Inv-loop μ-loop
 half-requires c κs = search needs
 
 returns : tie.Need-returns Inv-loop μ-loop
-returns c = sym (gap (now (c .before .before .before .before .before .args .tray)) (c .before .before .before .before .before .args .count) (c .before .before .before .loop .i) (c .before .before .before .loop .end) (search needs) (λ e. c .if1 .taken (c .before .half .ensures .0 ∙ e))) ∙ c .before .before .before .loop .inv .1
+returns c =
+    let turn = read (c .before) in
+    let v = turn .loop in
+    let a = turn .before .before .args in
+    sym (gap (now (a .tray)) (a .count) (v .i) (v .end) (search needs) (λ e. c .if1 .taken (c .before .half .ensures .0 ∙ e))) ∙ v .inv .1
 
 add-half-2 : tie.Need-add-half-2 Inv-loop μ-loop
 add-half-2 c = search needs
@@ -71,10 +79,18 @@ loop-less : tie.Need-loop-less Inv-loop μ-loop
 loop-less c = search needs
 
 loop-again : tie.Need-loop-again Inv-loop μ-loop
-loop-again c = (search needs, sym (follows (now (c .before .before .before .before .before .before .args .tray)) (c .before .before .before .before .before .before .args .count) (c .before .before .before .before .loop .i) (c .before .before .before .before .loop .end) (c .half2 .result) (search needs) (sym (c .before .before .half .ensures .0) ∙ c .before .if1 .left) (c .half2 .ensures .0)) ∙ c .before .before .before .before .loop .inv .1)
+loop-again c =
+    let turn = read (c .before .before) in
+    let v = turn .loop in
+    let a = turn .before .before .args in
+    let here = sym (c .before .before .half .ensures .0) ∙ c .before .if1 .left in
+    (search needs, sym (follows (now (a .tray)) (a .count) (v .i) (v .end) (c .half2 .result) (search needs) here (c .half2 .ensures .0)) ∙ v .inv .1)
 
 returns-2 : tie.Need-returns-2 Inv-loop μ-loop
-returns-2 c = sym (done (now (c .before .before .before .args .tray)) (c .before .before .before .args .count) (c .before .loop .i) (c .before .loop .end) (search needs)) ∙ c .before .loop .inv .1
+returns-2 c =
+    let v = c .before .loop in
+    let a = c .before .before .before .args in
+    sym (done (now (a .tray)) (a .count) (v .i) (v .end) (search needs)) ∙ v .inv .1
 
 pub frames-follow-spec : {M : Type 1} → statement M
 frames-follow-spec =

@@ -1,4 +1,5 @@
 -- `wire::tray::in_directory` meets its contract: the branch gives the first test of `inDirectory` its value. A count is below 2 ^ 16, so no sum wraps.
+use Prim.Native.Nat.{_<_}
 use native.Mathlib.Omega.{arith}
 use borrow.Author.Needs.{needs}
 use borrow.Author.Tests.{lt-ltb, le-ltb}
@@ -8,6 +9,9 @@ use Rattle.wire.specs.Tray.{inDirectory}
 use Rattle.wire.proofs.tray.in_directory.Statement.{statement}
 use Rattle.wire.proofs.tray.in_directory.Tie as tie
 
+count-below : (c : tie.After-entry-count) → c .entry-count .result < 65536
+count-below c = rw (c .entry-count .ensures) (entry-count-below (now (c .before .before .args .tray)) (λ i. c .before .shared-slice-known .given i .fits))
+
 entry-count-requires : tie.Need-entry-count-requires
 entry-count-requires c κs = search needs
 
@@ -15,10 +19,10 @@ add-result : tie.Need-add-result
 add-result c = search needs
 
 mul-result : tie.Need-mul-result
-mul-result c = omega (arith, entry-count-below (now (c .before .before .before .args .tray)) (λ i. c .before .before .shared-slice-known .given i .fits), c .before .entry-count .ensures)
+mul-result c = omega (arith, count-below (c .before))
 
 add-result-2 : tie.Need-add-result-2
-add-result-2 c = omega (arith, entry-count-below (now (c .before .before .before .args .tray)) (λ i. c .before .before .shared-slice-known .given i .fits), c .before .entry-count .ensures)
+add-result-2 c = omega (arith, count-below (c .before))
 
 returns : tie.Need-returns
 unfolding inDirectory

@@ -11,7 +11,9 @@ use Rattle.wire.specs.Tray.{part}
 use Rattle.wire.proofs.tray.part_of.Statement.{statement}
 use Rattle.wire.proofs.tray.part_of.Tie as tie
 
-inside : (c : tie.Then1) → c .before .before .before .args .offset + c .before .before .before .args .len ≤ length (now (c .before .before .before .args .tray))
+inside : (c : tie.Then1)
+    → let a = c .before .before .before .args in
+    a .offset + a .len ≤ length (now (a .tray))
 inside c = leb-true _ _ (sym (c .before .lies-in .ensures) ∙ c .if1 .taken)
 
 lies-in-requires : tie.Need-lies-in-requires

@@ -1,0 +1,67 @@
+-- Laws of soundness as sound.rt tests it: its parts, taken together, are the rules' `sound`.
+use Prim.Native.Nat.{ℕ}
+use mathlib.Core.Bool.{Bool, true, false, not, cond, _&&_, _||_, and-eq-true-iff, and-true, and-false}
+use mathlib.Core.List.{List}
+use mathlib.Core.Path.{_≡_, refl, ap, _∙_}
+use borrow.Author.Tests.{leb-true, leb-false, lt-ltb, le-ltb}
+use lib.Dec.{leb, ltb, eqb}
+use Rattle.wire.specs.Frame.{roundFits}
+use Rattle.wire.specs.Numbers.{listed}
+use Rattle.controller.specs.Fields.{stateOf, bare}
+use Rattle.controller.specs.Laws.State.{sound-list-gives}
+use Rattle.controller.specs.Lists.{mem}
+use Rattle.controller.specs.State.{view, soundList, soundSaid, soundEmpty, sound}
+use Rattle.controller.specs.Work.Sound.{emptySound, bitsSound, fieldsSound, listsSound}
+use Rattle.controller.specs.declared.state.Fields.{Fields}
+use Rattle.controller.specs.declared.state.State.{State}
+
+-- "b where a holds" is "not a, or b"
+pub when-or : (a b : Bool) → (not a || b) ≡ cond a b true
+when-or true b = refl
+when-or false b = refl
+
+-- and "b up to round m" is "after m, or b"
+until-or : (t m : ℕ) (b : Bool) → (ltb m t || b) ≡ cond (leb t m) b true
+until-or t m b = go (leb t m) refl
+  where
+    go : (a : Bool) → leb t m ≡ a → (ltb m t || b) ≡ cond a b true
+    go true e = rw (le-ltb m t (leb-true t m e))
+    go false e = rw (lt-ltb m t (leb-false t m e))
+
+-- b is looked at only where a holds
+where-both : (a b c : Bool) → (a ≡ true → b ≡ c) → (a && b) ≡ (a && c)
+where-both true b c h = h refl
+where-both false b c h = refl
+
+-- the lists first, the own number last
+reorder : (round numbered heard lists said empty bits : Bool)
+    → (round && (numbered && heard) && lists && said && empty && bits) ≡ (lists && (round && said && empty && bits && numbered && heard))
+reorder true true true true said empty bits = rw (and-true, and-true)
+reorder true true true false said empty bits = refl
+reorder true true false lists said empty bits = rw (and-true, and-false, and-false)
+reorder true false heard lists said empty bits = rw (and-false, and-false)
+reorder false numbered heard lists said empty bits = rw and-false
+
+pub lists-sound-heard : (s : State) → listsSound s ≡ true → soundList (s .heard) ≡ true
+lists-sound-heard s h =
+    let both = and-eq-true-iff _ (soundList (s .echoes)) .0 h in
+    and-eq-true-iff (soundList (s .heard)) (soundList (s .candidates)) .0 (both .0) .0
+
+module _ (f : Fields) (h c e : List ℕ) where
+  abbrev state : State
+  state = stateOf f h c e
+
+  -- a sound list is empty exactly if it has no used place
+  empty-sound : listsSound state ≡ true → soundEmpty (view state) ≡ emptySound f
+  empty-sound t =
+      let both = and-eq-true-iff _ (soundList (state .echoes)) .0 t in
+      let joined = sound-list-gives (state .candidates) (and-eq-true-iff (soundList (state .heard)) _ .0 (both .0) .1) .used in
+      let echoed = sound-list-gives (state .echoes) (both .1) .used in
+      rw (joined, echoed, until-or (f .round) 2, until-or (f .round) 1)
+
+  pub sound-parts : sound state ≡ (listsSound state && (fieldsSound f && not (eqb (f .own) 0) && mem (f .own) (listed (state .heard))))
+  unfolding sound
+  sound-parts =
+      reorder (roundFits (f .round)) (not (eqb (f .own) 0)) (mem (f .own) (listed (state .heard))) (listsSound state)
+      (soundSaid (bare f)) (soundEmpty (view state)) (bitsSound f)
+      ∙ where-both (listsSound state) _ _ (λ t. rw (empty-sound t))

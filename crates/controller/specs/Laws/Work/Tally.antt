@@ -1,0 +1,76 @@
+-- Laws of the received lists, by the places of those heard: what the tally finds of them in the state and in the tray.
+use Prim.Native.Nat.{ℕ, zero, suc, _+_, _-_, _≤_, _<_}
+use mathlib.Core.Bool.{Bool, true, false, cond}
+use mathlib.Core.List.{List, [], _∷_, List·Memᴰ·head, List·Memᴰ·tail, List·Memᴰ·not-nil}
+use mathlib.Core.Option.{Option, some, none}
+use mathlib.Core.Path.{_≡_, refl, ap}
+use native.Mathlib.Omega.{arith}
+use lib.Dec.{ltb, eqb}
+use lib.ListN.{length, getD, take, length-append, length-replicate}
+use Rattle.wire.specs.Frame.{Content, writable, kindOf, maxCount}
+use Rattle.wire.specs.Laws.Frame.{writable-gives, writable-count}
+use Rattle.wire.specs.Limits.{maxNumbers}
+use Rattle.wire.specs.Numbers.{stored, listed}
+use Rattle.wire.specs.Tray.{Entry, place, bytesAt}
+use Rattle.wire.specs.Words.{Below}
+use Rattle.controller.specs.Lists.{In}
+use Rattle.controller.specs.State.{View, view, sound}
+use Rattle.controller.specs.Fields.{stateOf}
+use Rattle.controller.specs.Received.{ReceivedLists, frameOf, readIn, receive, listIn, lists}
+use Rattle.controller.specs.Work.Opened.{listUnder}
+use Rattle.controller.specs.Work.Received.{contentUnder}
+use Rattle.controller.specs.Laws.Lists.{rising-gives}
+use Rattle.controller.specs.Laws.State.{SoundList, Sound, sound-gives, sound-stored}
+use Rattle.controller.specs.Laws.Received.{received-allowed}
+use Rattle.controller.specs.declared.state.Fields.{Fields}
+use Rattle.controller.specs.declared.state.State.{State}
+
+-- ---- the received lists, by the places of those heard
+
+abbrev pub nthList : ReceivedLists → ℕ → List ℕ
+nthList l j = l .list (getD (l .heard) j 0)
+
+list-sound : (o : Option Content) → ((c : Content) → o ≡ some c → writable c ≡ true) → SoundList (listIn o)
+list-sound none allowed = record { short = omega arith; rises = tt; positive = λ y i. absurd (List·Memᴰ·not-nil i) }
+list-sound (some c) allowed =
+    let up = rising-gives (c .numbers) (writable-gives c (allowed c refl) .rise) in
+    record { short = writable-count c (allowed c refl); rises = up .0; positive = up .1 }
+
+pub list-at-sound : (v : View) (es : List Entry) → Sound v → (j : ℕ) → SoundList (nthList (lists (receive v es)) j)
+list-at-sound v es h j =
+    let x = getD ((receive v es) .heard) j 0 in
+    list-sound ((receive v es) .from x) (received-allowed v es h x)
+
+-- a bound on the places is one on the numbers, and on those of the first places
+pub below-in : {k : ℕ} (l : List ℕ) → Below k l → (x : ℕ) → In x l → x < k
+below-in [] small x i = absurd (List·Memᴰ·not-nil i)
+below-in (y ∷ l) small x (List·Memᴰ·head e) = omega (arith, small 0, e)
+below-in (y ∷ l) small x (List·Memᴰ·tail i) = below-in l (λ j. small (suc j)) x i
+
+pub below-take : {k : ℕ} (n : ℕ) (l : List ℕ) → Below k l → Below k (take n l)
+below-take zero l small i = omega (arith, small (length l))
+below-take (suc n) [] small i = small i
+below-take (suc n) (y ∷ l) small zero = small 0
+below-take (suc n) (y ∷ l) small (suc i) = below-take n l (λ j. small (suc j)) i
+
+-- ---- the lists by the fields and the echoes alone
+
+-- the list received under a number
+pub under-list : (f : Fields) (h c e b : List ℕ) (x i : ℕ) → listUnder f e b x i ≡ listIn (contentUnder (stateOf f h c e) b x i)
+unfolding frameOf
+under-list f h c e b x i = pick (eqb x (f .own))
+  where
+    pick : (t : Bool)
+        → cond t (cond (ltb 0 (maxCount (kindOf (f .round)))) (listed (record { len = f .echoes; at = e })) [])
+        (listIn (readIn (f .round) (bytesAt b (place b i))))
+        ≡ listIn (cond t (some (frameOf (view (stateOf f h c e)))) (readIn (f .round) (bytesAt b (place b i))))
+    pick true = refl
+    pick false = refl
+
+-- the echoes of a sound state have their 64 places
+pub echoes-sized : (s : State) → sound s ≡ true → (s .echoes .len ≤ maxNumbers) × (length (s .echoes .at) ≡ maxNumbers)
+echoes-sized s test =
+    let l = listed (s .echoes) in
+    let short : length l ≤ maxNumbers = sound-gives s test .echoes .short in
+    let size : length ((stored l) .at) ≡ length l + (maxNumbers - length l) = simp (length-append, length-replicate) in
+    (omega (arith, ap (λ (t : State). t .echoes .len) (sound-stored s test)), omega (arith, ap (λ (t : State). length (t .echoes .at)) (sound-stored s test)))

@@ -1,0 +1,18 @@
+-- Why every run has its outcome, in three parts.
+-- Counting: thirds and two thirds of those heard.
+pub mod Counting
+-- The protocol: the coordinator rotation, and one bit over it, as equations on counts.
+pub mod Rotation
+pub mod RotationLaws
+pub mod Bit
+pub mod BitLaws
+-- A run as steps of the published rules, and that such steps are an instance of the protocol.
+pub mod Steps
+pub mod StepsLaws
+pub mod StepsRotation
+pub mod StepsBit
+pub mod Protocol
+-- Lists of calls: that a run is such steps.
+pub mod Calls
+pub mod RunSteps
+pub mod Agreement

@@ -1,0 +1,269 @@
+-- Laws of calls, from their promises alone: what a call that works gives, and what holds along a controller's list.
+--     Returns v a after        the answer a and the buffer `after` are those of a call that made the state v: its stored form, and its frame in front
+--     receivedWith k         what is received with a tray by the state it is handed over with
+--     madeBy k               the state that a tray makes of the state it is handed over with
+--     returned ks            the states that the calls ks return
+--     FirstDecided u s ks    the list of states split at the first with a decision
+use Prim.Native.Nat.{ℕ, suc, _+_, _*_, _≤_, _<_}
+use mathlib.Core.Bool.{true, false}
+use mathlib.Core.List.{List, [], _∷_, _++_, map, List·Memᴰ·head, List·Memᴰ·tail, List·Memᴰ·cases-cons, List·Memᴰ·not-nil, List·Memᴰ·eq-of-singleton, Memᴰ·map}
+use mathlib.Core.Logic.{_⊎_, inl, inr, _≢_}
+use mathlib.Core.Path.{_≡_, refl, sym, ap, _∙_, subst}
+use native.Mathlib.Omega.{arith}
+use native.Mathlib.Decide.{ℕ-discrete}
+use borrow.Author.Tests.{eqb-true, eqb-false, eq-eqb, ne-eqb}
+use lib.Dec.{eqb}
+use lib.ListN.{length, take}
+use lib.Seq.{take-append-seam}
+use Rattle.controller.specs.Bytes.{entries}
+use Rattle.controller.specs.State.{View, view, storedState, startView}
+use Rattle.controller.specs.Received.{Received, receive}
+use Rattle.controller.specs.Rules.{next}
+use Rattle.controller.specs.Calls.{Promise, sentBytes}
+use Rattle.controller.specs.Laws.Lists.{true-or-false}
+use Rattle.controller.specs.Laws.Refusals.{Fits, start-accepted, tray-accepted}
+use Rattle.controller.specs.Laws.Rules.{step-own, step-round, decided-kept}
+use Rattle.controller.specs.Laws.State.{view-stored}
+use Rattle.controller.specs.declared.state.State.{State}
+use Rattle.controller.specs.declared.state.Answer.{Answer}
+use Rattle.run.specs.Run.{Member, TrayCall, Accepted, HandedOn, Controller, states, Sent}
+use Rattle.run.specs.Outcome.{Decides}
+
+-- ---- one call
+
+pub record Returns (v : View) (a : Answer) (after : List ℕ) : Type 0 where
+  pub state : a .state ≡ storedState v
+  pub frame : take (a .length) after ≡ sentBytes v
+
+promise-makes : {n : ℕ} {v : View} {s : State} {before : List ℕ} {a : Answer} {after : List ℕ}
+    → Promise n v s before a after → a .refusal ≡ 0 → Returns v a after
+promise-makes {n} {v} p e =
+    let t : eqb n 0 ≡ true = eq-eqb n 0 (sym (p .number) ∙ e) in
+    record { state = rw t at (p .state); frame = rw (p .written, p .output, t) (take-append-seam (sentBytes v) _) }
+
+promise-keeps : {n : ℕ} {v : View} {s : State} {before : List ℕ} {a : Answer} {after : List ℕ}
+    → Promise n v s before a after → a .refusal ≢ 0 → a .state ≡ s
+promise-keeps {n} p e = let t : eqb n 0 ≡ false = ne-eqb n 0 (λ z. e (p .number ∙ z)) in rw t at (p .state)
+
+pub makes-view : {v : View} {a : Answer} {after : List ℕ} → Returns v a after → view (a .state) ≡ v
+makes-view {v} m = ap view (m .state) ∙ view-stored v
+
+-- what a call wrote, up to the returned length, is the frame of the state that it returned
+makes-sent : {v : View} {a : Answer} {after : List ℕ} → Returns v a after → take (a .length) after ≡ sentBytes (view (a .state))
+makes-sent m = m .frame ∙ ap sentBytes (sym (makes-view m))
+
+-- what it received
+abbrev pub receivedWith : TrayCall → Received
+receivedWith k = receive (view (k .state)) (entries (k .tray))
+
+abbrev pub madeBy : TrayCall → View
+madeBy k = next (view (k .state)) (entries (k .tray))
+
+pub accepted-fits : (k : TrayCall) → Accepted k → Fits (k .state) (k .tray)
+accepted-fits k w = tray-accepted (k .state) (k .tray) (length (k .before)) (sym (k .promise .number) ∙ w) .0
+
+pub accepted-makes : (k : TrayCall) → Accepted k → Returns (madeBy k) (k .answer) (k .after)
+accepted-makes k w = promise-makes (k .promise) w
+
+-- worked calls raise the round by 1
+pub accepted-round : (k : TrayCall) → Accepted k → k .answer .state .round ≡ suc (k .state .round)
+accepted-round k w = let m = accepted-makes k w in rw (m .state) (omega (arith, step-round (view (k .state)) (receivedWith k)))
+
+-- refused calls return the given state
+accepted-or-kept : (k : TrayCall) → Accepted k ⊎ (k .answer .state ≡ k .state)
+accepted-or-kept k = elim (true-or-false (eqb (k .answer .refusal) 0)) [
+  | inl t ↦ inl (eqb-true _ _ t)
+  | inr t ↦ inr (promise-keeps (k .promise) (eqb-false _ _ t))
+]
+
+-- ---- a list of calls
+
+abbrev returned : List TrayCall → List State
+returned ks = map (λ (k : TrayCall). k .answer .state) ks
+
+-- what holds at first and is kept by each call that works holds all along: refused calls drop out
+holds-along : (P : State → Type 0) (s : State) (ks : List TrayCall) → HandedOn s ks → P s
+    → ((k : TrayCall) → Member k ks → Accepted k → P (k .state) → P (k .answer .state))
+    → (u : State) → Member u (s ∷ returned ks) → P u
+holds-along P s [] h p step u i = elim (List·Memᴰ·cases-cons i) [ inl e ↦ subst P (sym e) p | inr j ↦ absurd (List·Memᴰ·not-nil j) ]
+holds-along P s (k ∷ ks) h p step u i =
+    let p′ : P (k .answer .state) = elim (accepted-or-kept k) [
+      | inl w ↦ step k (List·Memᴰ·head refl) w (subst P (sym (h .0)) p)
+      | inr e ↦ subst P (sym (e ∙ h .0)) p
+    ] in
+    elim (List·Memᴰ·cases-cons i) [
+      | inl e ↦ subst P (sym e) p
+      | inr j ↦ holds-along P (k .answer .state) ks (h .1) p′ (λ l m. step l (List·Memᴰ·tail m)) u j
+    ]
+
+-- the state that a call is handed over with is one of the list
+call-given : (s : State) (ks : List TrayCall) → HandedOn s ks → {k : TrayCall} → Member k ks → Member (k .state) (s ∷ returned ks)
+call-given s [] h i = absurd (List·Memᴰ·not-nil i)
+call-given s (l ∷ ks) h i = elim (List·Memᴰ·cases-cons i) [
+  | inl e ↦ List·Memᴰ·head (ap (λ (k : TrayCall). k .state) e ∙ h .0)
+  | inr j ↦ List·Memᴰ·tail (call-given (l .answer .state) ks (h .1) j)
+]
+
+-- ---- rounds along the list
+
+-- rounds never fall
+round-later : (s : State) (ks : List TrayCall) → HandedOn s ks → (u : State) → Member u (s ∷ returned ks) → s .round ≤ u .round
+round-later s ks h = holds-along (λ u. s .round ≤ u .round) s ks h (omega arith) (λ k i w l. omega (arith, accepted-round k w))
+
+-- the first state, once left, does not come back
+round-first : (s : State) (ks : List TrayCall) → HandedOn s ks → (u : State) → Member u (s ∷ returned ks) → u .round ≡ s .round → u ≡ s
+round-first s ks h u i = holds-along (λ u. (s .round ≤ u .round) × (u .round ≡ s .round → u ≡ s)) s ks h
+    (omega arith, λ e. refl)
+    (λ k i w l. (omega (arith, accepted-round k w, l .0), λ e. absurd (omega (arith, accepted-round k w, l .0)))) u i .1
+
+-- nor does any other: a list has one state of each round
+round-one : (s : State) (ks : List TrayCall) → HandedOn s ks → (u v : State) → Member u (s ∷ returned ks) → Member v (s ∷ returned ks)
+    → u .round ≡ v .round → u ≡ v
+round-one s [] h u v i j e = List·Memᴰ·eq-of-singleton i ∙ sym (List·Memᴰ·eq-of-singleton j)
+round-one s (k ∷ ks) h u v i j e = elim (List·Memᴰ·cases-cons i) [
+  | inl a ↦ a ∙ sym (round-first s (k ∷ ks) h v j (sym e ∙ ap (λ (x : State). x .round) a))
+  | inr m ↦ elim (List·Memᴰ·cases-cons j) [
+    | inl b ↦ round-first s (k ∷ ks) h u i (e ∙ ap (λ (x : State). x .round) b) ∙ sym b
+    | inr n ↦ round-one (k .answer .state) ks (h .1) u v m n e
+  ]
+]
+
+-- calls behind one that works are handed states of higher rounds
+accepted-before : (k l : TrayCall) (ks : List TrayCall) → HandedOn (k .answer .state) ks → Accepted k → Member l ks → k .state .round < l .state .round
+accepted-before k l ks h w i = omega (arith, accepted-round k w, round-later (k .answer .state) ks h (l .state) (call-given (k .answer .state) ks h i))
+
+-- so just one call works each round
+accepted-one : (s : State) (ks : List TrayCall) → HandedOn s ks → (k l : TrayCall) → Member k ks → Member l ks → Accepted k → Accepted l
+    → k .state .round ≡ l .state .round → k ≡ l
+accepted-one s [] h k l i j w x e = absurd (List·Memᴰ·not-nil i)
+accepted-one s (m ∷ ks) h k l i j w x e = elim (List·Memᴰ·cases-cons i) [
+  | inl a ↦ elim (List·Memᴰ·cases-cons j) [
+    | inl b ↦ a ∙ sym b
+    | inr j′ ↦ absurd (omega (arith, accepted-before k l ks (subst (λ (y : TrayCall). HandedOn (y .answer .state) ks) (sym a) (h .1)) w j′))
+  ]
+  | inr i′ ↦ elim (List·Memᴰ·cases-cons j) [
+    | inl b ↦ absurd (omega (arith, accepted-before l k ks (subst (λ (y : TrayCall). HandedOn (y .answer .state) ks) (sym b) (h .1)) x i′))
+    | inr j′ ↦ accepted-one (m .answer .state) ks (h .1) k l i′ j′ w x e
+  ]
+]
+
+-- ---- decisions along the list
+
+-- a decision is kept, whatever the trays
+decision-kept : (b : ℕ) → b ≢ 2 → (s : State) (ks : List TrayCall) → HandedOn s ks → s .decision ≡ b
+    → (u : State) → Member u (s ∷ returned ks) → u .decision ≡ b
+decision-kept b made s ks h e = holds-along (λ u. u .decision ≡ b) s ks h e
+    (λ k i w d.
+    ap (λ (u : State). u .decision) (accepted-makes k w .state)
+    ∙ decided-kept (view (k .state)) (receivedWith k) (ne-eqb _ _ (λ z. made (sym d ∙ z))) .0
+    ∙ d)
+
+-- the decided state u is that first one or stands behind it
+record FirstDecided (u s : State) (ks : List TrayCall) : Type 0 where
+  earlier : List State
+  state : State
+  calls : List TrayCall
+  handed : HandedOn state calls
+  split : s ∷ returned ks ≡ earlier ++ state ∷ returned calls
+  undecided : (v : State) → Member v earlier → v .decision ≡ 2
+  decided : state .decision ≢ 2
+  reaches : Member u (state ∷ returned calls)
+
+first-here : (u s : State) (ks : List TrayCall) → HandedOn s ks → Member u (s ∷ returned ks) → s .decision ≢ 2 → FirstDecided u s ks
+first-here u s ks h i d =
+    record {
+      earlier = [];
+      state = s;
+      calls = ks;
+      handed = h;
+      split = refl;
+      undecided = λ v m. absurd (List·Memᴰ·not-nil m);
+      decided = d;
+      reaches = i;
+    }
+
+first-decided : (u s : State) (ks : List TrayCall) → HandedOn s ks → Member u (s ∷ returned ks) → u .decision ≢ 2 → FirstDecided u s ks
+first-decided u s [] h i made = first-here u s [] h i (λ e. made (ap (λ (x : State). x .decision) (List·Memᴰ·eq-of-singleton i) ∙ e))
+first-decided u s (k ∷ ks) h i made = elim (ℕ-discrete (s .decision) 2) [
+  | no d ↦ first-here u s (k ∷ ks) h i d
+  | yes e ↦ elim (List·Memᴰ·cases-cons i) [
+    | inl a ↦ absurd (made (ap (λ (x : State). x .decision) a ∙ e))
+    | inr j ↦
+        let f = first-decided u (k .answer .state) ks (h .1) j made in
+        record {
+          earlier = s ∷ f .earlier;
+          state = f .state;
+          calls = f .calls;
+          handed = f .handed;
+          split = ap (λ l. s ∷ l) (f .split);
+          undecided = λ v m. elim (List·Memᴰ·cases-cons m) [ inl b ↦ ap (λ (x : State). x .decision) b ∙ e | inr n ↦ f .undecided v n ];
+          decided = f .decided;
+          reaches = f .reaches;
+        }
+  ]
+]
+
+-- ---- a controller's list
+
+module _ (c : Controller) where
+  open Controller c using (number, start, trays, handed)
+
+  pub start-returns : Returns (startView number (start .bit)) (start .answer) (start .after)
+  start-returns = promise-makes (start .promise) (c .started)
+
+  pub start-round : start .answer .state .round ≡ 1
+  start-round = ap (λ (s : State). s .round) (start-returns .state)
+
+  pub start-bit : start .bit ≤ 1
+  start-bit = start-accepted number (start .bit) (length (start .before)) (sym (start .promise .number) ∙ c .started) .1
+
+  pub start-listed : Member (start .answer .state) (states c)
+  start-listed = List·Memᴰ·head refl
+
+  pub given-listed : {k : TrayCall} → Member k trays → Member (k .state) (states c)
+  given-listed = call-given (start .answer .state) trays handed
+
+  pub returned-listed : {k : TrayCall} → Member k trays → Member (k .answer .state) (states c)
+  returned-listed i = List·Memᴰ·tail (Memᴰ·map (λ (k : TrayCall). k .answer .state) i)
+
+  pub state-one : (u v : State) → Member u (states c) → Member v (states c) → u .round ≡ v .round → u ≡ v
+  state-one = round-one (start .answer .state) trays handed
+
+  pub call-one : (k l : TrayCall) → Member k trays → Member l trays → Accepted k → Accepted l → k .state .round ≡ l .state .round → k ≡ l
+  call-one = accepted-one (start .answer .state) trays handed
+
+  pub state-round : (s : State) → Member s (states c) → 1 ≤ s .round
+  state-round s i = omega (arith, start-round, round-later (start .answer .state) trays handed s i)
+
+  -- a controller keeps its number
+  pub state-own : (s : State) → Member s (states c) → s .own ≡ number
+  state-own = holds-along (λ s. s .own ≡ number) (start .answer .state) trays handed
+      (ap (λ (s : State). s .own) (start-returns .state))
+      (λ k i w e. ap (λ (s : State). s .own) (accepted-makes k w .state) ∙ step-own (view (k .state)) (receivedWith k) ∙ e)
+
+  -- each state of the list was made by the start or by a tray that was worked, with its frame
+  pub state-sent : (s : State) → Member s (states c) → Sent c (s .round) (sentBytes (view s))
+  state-sent = holds-along (λ s. Sent c (s .round) (sentBytes (view s))) (start .answer .state) trays handed
+      (inl (start-round, sym (makes-sent start-returns)))
+      (λ k i w h. inr (k, i, w, refl, sym (makes-sent (accepted-makes k w))))
+
+  -- and a frame that was sent is that of a state in the list
+  pub sent-state : {t : ℕ} {b : List ℕ} → Sent c t b → (s : State) × Member s (states c) × (s .round ≡ t) × (b ≡ sentBytes (view s))
+  sent-state (inl h) = (start .answer .state, start-listed, start-round ∙ sym (h .0), h .1 ∙ makes-sent start-returns)
+  sent-state (inr h) = (h .0 .answer .state, returned-listed (h .1), h .3, h .4 ∙ makes-sent (accepted-makes (h .0) (h .2)))
+
+  -- a controller with a decided state has decided in the first such, and keeps to it
+  pub decides-by : (n : ℕ) (u : State) → Member u (states c) → u .round ≤ 3 + 3 * n → u .decision ≢ 2 → Decides n (u .decision) c
+  decides-by n u i t made =
+      let f = first-decided u (start .answer .state) trays handed i made in
+      let all = decision-kept (f .state .decision) (f .decided) (f .state) (f .calls) (f .handed) refl in
+      record {
+        earlier = f .earlier;
+        deciding = f .state;
+        later = returned (f .calls);
+        order = f .split;
+        undecided = f .undecided;
+        timely = omega (arith, round-later (f .state) (f .calls) (f .handed) u (f .reaches));
+        decision = sym (all u (f .reaches));
+        kept = λ v m. all v (List·Memᴰ·tail m) ∙ sym (all u (f .reaches));
+      }

@@ -1,0 +1,359 @@
+//! A rushing adversary: it sees all correct frames of a round, then sends for all
+//! faulty controllers together.
+//!
+//! For each receiver it counts what that one will get from the correct ones and
+//! adds just as much as brings a bit or a number to a third or two thirds of those
+//! heard, or leaves it one short. It equivocates: receivers on two sides are told
+//! two things, by a faulty king too. Faulty ones may join late, push a number late,
+//! omit frames, send void ones, or send two at once.
+
+use crate::fields::Fields;
+use crate::network::{Adversary, View};
+use crate::packing::{
+    frame, has_list, kind_of, third, two_thirds, Entry, INIT, NONE, PROPOSE, ROSTER, TURN,
+};
+use crate::random::Random;
+use crate::states::{self, Sorted};
+use crate::voids::damaged;
+
+/// Numbers of a network: the correct ones with their inputs, and the faulty.
+pub struct Members {
+    pub correct: Vec<(u32, u8)>,
+    pub faulty: Vec<u32>,
+}
+
+impl Members {
+    /// Faulty numbers stand low (kings early), high (kings late), or anywhere.
+    pub fn of(random: &mut Random, size: usize, faulty: usize) -> Members {
+        let pool = states::pool(random);
+        let mut numbers = random.some(&pool, size);
+        match random.below(5) {
+            0 | 1 => (),
+            2 => numbers.reverse(),
+            _ => random.shuffle(&mut numbers),
+        }
+        let correct = numbers.split_off(faulty);
+        let bits = random.below(4);
+        let bit_of = |(place, number)| match bits {
+            0 => (number, 0),
+            1 => (number, 1),
+            2 => (number, (place % 2) as u8),
+            _ => (number, random.bit()),
+        };
+        Members {
+            correct: correct.into_iter().enumerate().map(bit_of).collect(),
+            faulty: numbers,
+        }
+    }
+}
+
+/// How often the faulty ones of a run do each of these, in percent.
+#[derive(Default)]
+struct FaultRates {
+    omit: usize,
+    void: usize,
+    repeat: usize,
+    /// How often a count is left one short.
+    short: usize,
+}
+
+impl FaultRates {
+    /// Some or none of each; with none the plan is kept best.
+    fn of(random: &mut Random) -> FaultRates {
+        if random.percent(40) {
+            return FaultRates::default();
+        }
+        let mut chance = || random.pick(&[0, 0, 10, 50]);
+        FaultRates {
+            omit: chance(),
+            void: chance(),
+            repeat: chance(),
+            short: chance(),
+        }
+    }
+}
+
+/// To which bit each receiver is pushed.
+#[derive(Clone, Copy)]
+enum Side {
+    /// Any, each time.
+    Any,
+    /// One half to 0, the other half to 1.
+    Halves,
+    /// The king to its own bit and the others to the other one, with just the next
+    /// king strong for it: so it holds out against the king, and the network stays
+    /// divided into the next phase.
+    Divide,
+}
+
+/// A faulty controller's plan.
+struct Faulty {
+    number: u32,
+    /// The round from which it sends at all.
+    joins: u32,
+    /// How many correct ones get its init.
+    inits: usize,
+}
+
+impl Faulty {
+    /// One that sends to all from the start.
+    fn from_start(number: u32, members: &Members) -> Faulty {
+        Faulty {
+            number,
+            joins: 1,
+            inits: members.correct.len(),
+        }
+    }
+
+    /// One whose init goes to just so many that with the others' help its number
+    /// comes to a third or two thirds of the rosters, or not without it.
+    fn partial(random: &mut Random, number: u32, members: &Members) -> Faulty {
+        let (correct, faulty) = (members.correct.len(), members.faulty.len());
+        let size = correct + faulty;
+        let inits = match random.below(3) {
+            0 => random.below(correct + 1),
+            1 => two_thirds(size) - random.within(1, faulty),
+            _ => third(size).saturating_sub(random.within(1, faulty)),
+        };
+        Faulty {
+            inits,
+            ..Faulty::from_start(number, members)
+        }
+    }
+
+    /// One that omits its first frames.
+    fn late(random: &mut Random, number: u32, members: &Members) -> Faulty {
+        Faulty {
+            joins: some_round(random, members),
+            ..Faulty::from_start(number, members)
+        }
+    }
+}
+
+/// A round of a run in which trays keep the guarantee.
+fn some_round(random: &mut Random, members: &Members) -> u32 {
+    let size = members.correct.len() + members.faulty.len();
+    random.within(1, 2 + 3 * size) as u32
+}
+
+pub struct Rushing {
+    random: Random,
+    faulty: Vec<Faulty>,
+    /// Numbers to bring into lists, each with the round from which to do so:
+    /// the faulty ones, and some that nobody has.
+    pushed: Vec<(u32, u32)>,
+    rates: FaultRates,
+    side: Side,
+}
+
+impl Rushing {
+    pub fn new(seed: u64, members: &Members) -> Rushing {
+        let mut random = Random::new(seed);
+        let manner = random.below(6);
+        let planned = |&number: &u32| match manner {
+            0 | 1 => Faulty::partial(&mut random, number, members),
+            2 => Faulty::late(&mut random, number, members),
+            _ => Faulty::from_start(number, members),
+        };
+        let faulty = members.faulty.iter().map(planned).collect();
+        Rushing {
+            faulty,
+            pushed: pushed(&mut random, members),
+            rates: FaultRates::of(&mut random),
+            side: random.pick(&[Side::Any, Side::Halves, Side::Divide, Side::Divide]),
+            random,
+        }
+    }
+
+    /// The faulty ones that send to a receiver in a round.
+    fn present(&mut self, round: u32, receiver: usize) -> Vec<u32> {
+        let (random, omit) = (&mut self.random, self.rates.omit);
+        let mut sends = |one: &&Faulty| {
+            let reaches = kind_of(round) != INIT || receiver < one.inits;
+            one.joins <= round && reaches && !random.percent(omit)
+        };
+        let present = self.faulty.iter().filter(&mut sends);
+        present.map(|one| one.number).collect()
+    }
+
+    /// The bit that this receiver is to be pushed to.
+    fn side(&mut self, view: &View, receiver: usize) -> u8 {
+        match self.side {
+            Side::Any => self.random.bit(),
+            Side::Halves => (receiver % 2) as u8,
+            Side::Divide => divide(view, receiver),
+        }
+    }
+
+    /// A third or two thirds of those that a receiver hears, or one short.
+    fn aim(&mut self, heard: usize) -> usize {
+        let counts = [third(heard), two_thirds(heard), two_thirds(heard)];
+        self.random.pick(&counts) - usize::from(self.random.percent(self.rates.short))
+    }
+
+    /// The bits for one receiver: the pushed bit comes to the count aimed at, and
+    /// the faulty ones that are left say the other one or none.
+    fn bits(&mut self, view: &View, receiver: usize, present: usize, heard: usize) -> Vec<u8> {
+        let pushed = self.side(view, receiver);
+        if matches!(self.side, Side::Divide) {
+            return vec![pushed; present];
+        }
+        let from_correct = view.correct.iter().filter(|p| p.sent[5] == pushed).count();
+        let count = self.aim(heard).saturating_sub(from_correct).min(present);
+        let rest = self.random.pick(&[NONE, 1 - pushed]);
+        let mut bits = vec![pushed; count];
+        bits.resize(present, rest);
+        self.random.shuffle(&mut bits);
+        bits
+    }
+
+    /// The opinions for one receiver. Its king, if it is one of them, tells it what
+    /// its side is to hold, or speaks against its bit.
+    fn opinions(&mut self, view: &View, receiver: usize, present: &[u32]) -> Vec<u8> {
+        let side = self.side(view, receiver);
+        let against = 1 - view.states[receiver].bit;
+        let king = view.states[receiver].king;
+        let random = &mut self.random;
+        let mut opinion = |&n: &u32| match n == king {
+            true if random.percent(85) => side,
+            true => against,
+            false => random.below(3) as u8,
+        };
+        present.iter().map(&mut opinion).collect()
+    }
+
+    /// The lists for one receiver: each number pushed comes to the count aimed at.
+    fn lists(
+        &mut self,
+        view: &View,
+        state: &Fields,
+        present: usize,
+        heard: usize,
+    ) -> Vec<Vec<u32>> {
+        let mut lists = vec![Vec::new(); present];
+        let correct = view.correct.iter().map(|p| (p.number, 1));
+        let all: Vec<(u32, u32)> = self.pushed.iter().copied().chain(correct).collect();
+        for (number, from) in all {
+            if from > view.round || state.candidates.binary_search(&number).is_ok() {
+                continue;
+            }
+            let has = |list: &&Vec<u32>| list.binary_search(&number).is_ok();
+            let from_correct = view.lists.iter().filter(has).count();
+            let count = self.aim(heard).saturating_sub(from_correct);
+            let first = self.random.below(present.max(1));
+            for at in (first..present).chain(0..first).take(count) {
+                lists[at].push(number);
+            }
+        }
+        let sorted = |list: Vec<u32>| fitting(list.into_iter().collect::<Sorted>().0);
+        lists.into_iter().map(sorted).collect()
+    }
+
+    /// Damages or repeats what one faulty controller sends.
+    fn damage_or_repeat(&mut self, entry: Entry, round: u32) -> Vec<Entry> {
+        let mut entries = vec![entry];
+        if self.random.percent(self.rates.repeat) {
+            let bytes = frame(round, self.random.below(3) as u8, &[]);
+            entries.push(Entry {
+                bytes,
+                ..entries[0]
+            });
+        }
+        for entry in &mut entries {
+            if self.random.percent(self.rates.void) {
+                entry.bytes = damaged(&mut self.random, &entry.bytes, round);
+            }
+        }
+        entries
+    }
+}
+
+/// No numbers, or the faulty ones and some that nobody has; from the start, or
+/// each from a round of its own.
+fn pushed(random: &mut Random, members: &Members) -> Vec<(u32, u32)> {
+    let manner = random.below(3);
+    if manner == 0 {
+        return Vec::new();
+    }
+    let made_up: Vec<u32> = (0..3).map(|_| random.number().max(1)).collect();
+    let mut from = |&number: &u32| match manner {
+        1 => (number, 1),
+        _ => (number, some_round(random, members)),
+    };
+    members
+        .faulty
+        .iter()
+        .chain(&made_up)
+        .map(&mut from)
+        .collect()
+}
+
+/// To which bit a receiver is pushed if the network is to stay divided; none where
+/// it is best to say nothing.
+fn divide(view: &View, receiver: usize) -> u8 {
+    let state = &view.states[receiver];
+    let next = is_next_king(view, state);
+    let kind = kind_of(view.round);
+    match view.states.iter().find(|s| s.number == state.king) {
+        Some(king) if king.number == state.number => king.bit,
+        Some(king) if next || kind != PROPOSE => 1 - king.bit,
+        // A king of theirs sets the halves against each other, and the last one
+        // before a correct king sets that one against the rest.
+        None if kind == TURN && is_correct(view, after_king(state)) => u8::from(next),
+        None if kind == TURN => (receiver % 2) as u8,
+        _ => NONE,
+    }
+}
+
+fn is_correct(view: &View, number: Option<&u32>) -> bool {
+    view.states.iter().any(|s| Some(&s.number) == number)
+}
+
+/// The candidate that is king after the present one.
+fn after_king(state: &Fields) -> Option<&u32> {
+    state.candidates.iter().find(|&&c| c > state.king)
+}
+
+/// Whether a controller is the first correct one among its candidates after its
+/// king, by which kings go; after the last king, the first one of all.
+fn is_next_king(view: &View, state: &Fields) -> bool {
+    let candidates = state.candidates.iter();
+    let correct: Vec<&u32> = candidates.filter(|&c| is_correct(view, Some(c))).collect();
+    let later = correct.iter().find(|&&&c| c > state.king);
+    later.or(correct.first()) == Some(&&state.number)
+}
+
+/// As much of a list as a frame has room for.
+fn fitting(mut list: Vec<u32>) -> Vec<u32> {
+    list.truncate(64);
+    list
+}
+
+impl Adversary for Rushing {
+    fn entries(&mut self, view: &View, receiver: usize) -> Vec<Entry> {
+        let (round, state) = (view.round, &view.states[receiver]);
+        let present = self.present(round, receiver);
+        let all = [&state.heard, &present].into_iter().flatten().copied();
+        let heard = all
+            .chain(view.correct.iter().map(|p| p.number))
+            .collect::<Sorted>()
+            .0
+            .len();
+        let kind = kind_of(round);
+        let bits = match kind {
+            INIT | ROSTER => vec![NONE; present.len()],
+            TURN => self.opinions(view, receiver, &present),
+            _ => self.bits(view, receiver, present.len(), heard),
+        };
+        let lists = match has_list(kind) {
+            true => self.lists(view, state, present.len(), heard),
+            false => vec![Vec::new(); present.len()],
+        };
+        let mut entries = Vec::new();
+        for ((&sender, &bit), list) in present.iter().zip(&bits).zip(&lists) {
+            let bytes = frame(round, bit, list);
+            entries.extend(self.damage_or_repeat(Entry { sender, bytes }, round));
+        }
+        entries
+    }
+}

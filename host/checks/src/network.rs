@@ -1,0 +1,265 @@
+//! A whole network: correct controllers on an engine, and faulty ones among them.
+//! Correct is what document 01 calls proper.
+//!
+//! Each round, the adversary sees every correct frame and state before it sends.
+//! The trays that are handed over keep the guarantee of document 01's run, and the
+//! checks are that run's claims: agreement, a decision that is some correct one's
+//! input, the deadline, a decision that stays, and no refusal but under 3.
+
+use std::marker::PhantomData;
+
+use crate::calls::Calls;
+use crate::fields::{Fields, IMAGE_LEN};
+use crate::packing::{numbers_in, pack, Entry};
+use crate::random::Random;
+use crate::trays;
+
+const MAX_FRAME: usize = 264;
+
+/// A correct controller: its input, its state, and the frame that it sent last.
+#[derive(Clone)]
+pub struct Correct {
+    pub number: u32,
+    pub input: u8,
+    pub image: Vec<u8>,
+    pub sent: Vec<u8>,
+}
+
+impl Correct {
+    pub fn fields(&self) -> Fields {
+        Fields::of(&self.image)
+    }
+}
+
+/// All that the adversary sees before it sends.
+pub struct View {
+    pub round: u32,
+    pub correct: Vec<Correct>,
+    /// The list in each correct one's frame.
+    pub lists: Vec<Vec<u32>>,
+    pub states: Vec<Fields>,
+}
+
+/// Who sends for the faulty ones: what one receiver gets from them in one round.
+pub trait Adversary {
+    fn entries(&mut self, view: &View, receiver: usize) -> Vec<Entry>;
+}
+
+/// What the adversary brought about in a run.
+#[derive(Clone, Copy, Default)]
+pub struct Seen {
+    /// Whether correct ones named different kings in a round.
+    pub kings_differed: bool,
+    /// The last round whose making brought a correct one a new candidate.
+    pub last_join: u32,
+    /// The last round after which correct ones held different bits.
+    pub last_divided: u32,
+}
+
+pub struct Network<C> {
+    pub correct: Vec<Correct>,
+    pub seen: Seen,
+    /// How many there are, the faulty ones included.
+    size: usize,
+    round: u32,
+    random: Random,
+    engine: PhantomData<C>,
+}
+
+impl<C: Calls> Network<C> {
+    /// Starts each correct one with its number and bit.
+    pub fn start(correct: &[(u32, u8)], faulty: usize, seed: u64) -> Result<Network<C>, String> {
+        let started = |&(number, input): &(u32, u8)| {
+            let mut image = vec![0; IMAGE_LEN];
+            let mut out = [0; MAX_FRAME];
+            let mut length = 0;
+            match C::start(number, input, &mut image, &mut out, &mut length) {
+                0 => Ok(Correct {
+                    number,
+                    input,
+                    image,
+                    sent: out[..length].to_vec(),
+                }),
+                refusal => Err(format!("start of {number} refused under {refusal}")),
+            }
+        };
+        Ok(Network {
+            correct: correct.iter().map(started).collect::<Result<_, _>>()?,
+            seen: Seen::default(),
+            size: correct.len() + faulty,
+            round: 1,
+            random: Random::new(seed),
+            engine: PhantomData,
+        })
+    }
+
+    /// The last round in which each one must have decided.
+    pub fn deadline(&self) -> u32 {
+        3 + 3 * self.size as u32
+    }
+
+    /// Runs to the deadline and on past it.
+    pub fn run(&mut self, adversary: &mut impl Adversary) -> Result<(), String> {
+        while self.round < self.deadline() {
+            self.step(adversary)?;
+        }
+        self.check_end()?;
+        self.go_on()
+    }
+
+    /// Carries the frames of one round to every correct one.
+    pub fn step(&mut self, adversary: &mut impl Adversary) -> Result<(), String> {
+        let view = View {
+            round: self.round,
+            correct: self.correct.clone(),
+            lists: self.correct.iter().map(|p| numbers_in(&p.sent)).collect(),
+            states: self.correct.iter().map(Correct::fields).collect(),
+        };
+        for receiver in 0..self.correct.len() {
+            let tray = self.guaranteed(&view, adversary, receiver);
+            if self.random.percent(10) {
+                self.refuse(receiver, &tray)?;
+            }
+            self.accept(receiver, &tray)?;
+        }
+        self.round += 1;
+        self.record(&view.states);
+        Ok(())
+    }
+
+    /// Notes what this round's step brought about.
+    fn record(&mut self, before: &[Fields]) {
+        let now: Vec<Fields> = self.correct.iter().map(Correct::fields).collect();
+        let mut steps = before.iter().zip(&now);
+        self.seen.kings_differed |= now.iter().any(|s| s.king != now[0].king);
+        if steps.any(|(b, n)| n.candidates.len() > b.candidates.len()) {
+            self.seen.last_join = self.round;
+        }
+        if now.iter().any(|s| s.bit != now[0].bit) {
+            self.seen.last_divided = self.round;
+        }
+    }
+
+    /// A tray that keeps the guarantee: every other correct one's frame as it was
+    /// sent, sometimes twice, with what the adversary sends, in any order.
+    fn guaranteed(
+        &mut self,
+        view: &View,
+        adversary: &mut impl Adversary,
+        receiver: usize,
+    ) -> Vec<u8> {
+        let mut entries = adversary.entries(view, receiver);
+        let others = view
+            .correct
+            .iter()
+            .enumerate()
+            .filter(|&(i, _)| i != receiver);
+        for (_, other) in others {
+            let copies = if self.random.percent(3) { 2 } else { 1 };
+            for _ in 0..copies {
+                entries.push(Entry {
+                    sender: other.number,
+                    bytes: other.sent.clone(),
+                });
+            }
+        }
+        match self.random.below(3) {
+            0 => self.random.shuffle(&mut entries),
+            1 => entries.sort_by_key(|entry| entry.sender),
+            _ => (),
+        }
+        pack(view.round, &entries)
+    }
+
+    /// Refused calls in between: each leaves the state and the output as they are.
+    fn refuse(&mut self, receiver: usize, tray: &[u8]) -> Result<(), String> {
+        let junk_length = self.random.below(100);
+        let junk = self.random.bytes(junk_length);
+        let other_round = pack(self.round + 1, &[]);
+        let calls: [(&[u8], usize); 4] = [
+            (&junk, MAX_FRAME),
+            (&tray[..tray.len() - 1], MAX_FRAME),
+            (&other_round, 300),
+            (tray, self.random.below(MAX_FRAME)),
+        ];
+        for (bytes, room) in calls {
+            let mut image = self.correct[receiver].image.clone();
+            let before = self.random.bytes(room);
+            let mut out = before.clone();
+            let mut length = 1;
+            let answer = C::tray(&mut image, bytes, &mut out, &mut length);
+            let kept = image == self.correct[receiver].image && out == before && length == 0;
+            if answer == 0 || !kept || (room < MAX_FRAME && answer != 3) {
+                let number = self.correct[receiver].number;
+                return Err(format!(
+                    "{number}: a call to refuse gave {answer}, kept {kept}"
+                ));
+            }
+        }
+        Ok(())
+    }
+
+    /// Hands over a tray that keeps the guarantee: it must be accepted.
+    fn accept(&mut self, receiver: usize, tray: &[u8]) -> Result<(), String> {
+        let correct = &mut self.correct[receiver];
+        let (number, round) = (correct.number, self.round);
+        let before = C::answers(&correct.image)[0];
+        let mut out = [0; MAX_FRAME];
+        let mut length = 0;
+        let answer = C::tray(&mut correct.image, tray, &mut out, &mut length);
+        if answer != 0 {
+            return Err(format!("{number} refused round {round} under {answer}"));
+        }
+        correct.sent = out[..length].to_vec();
+        let [decision, now, ..] = C::answers(&correct.image);
+        if now != round + 1 {
+            return Err(format!("{number} made round {now} from {round}"));
+        }
+        check_kept(number, before, decision)
+    }
+
+    /// All have decided, alike, and for some correct one's input.
+    fn check_end(&self) -> Result<(), String> {
+        let decisions: Vec<u32> = self
+            .correct
+            .iter()
+            .map(|p| C::answers(&p.image)[0])
+            .collect();
+        let first = decisions[0];
+        if decisions.contains(&2) {
+            return Err(format!(
+                "not all decided by round {}: {decisions:?}",
+                self.round
+            ));
+        }
+        if decisions.iter().any(|&d| d != first) {
+            return Err(format!("no agreement: {decisions:?}"));
+        }
+        match self.correct.iter().any(|p| u32::from(p.input) == first) {
+            true => Ok(()),
+            false => Err(format!("no correct one had input {first}")),
+        }
+    }
+
+    /// Past the deadline trays may be anything; decisions stay.
+    fn go_on(&mut self) -> Result<(), String> {
+        let pool: Vec<u32> = (1..=100).collect();
+        for correct in &mut self.correct {
+            for _ in 0..9 {
+                let tray = trays::tray(&mut self.random, &pool, &correct.fields());
+                let before = C::answers(&correct.image)[0];
+                let mut out = [0; MAX_FRAME];
+                C::tray(&mut correct.image, &tray, &mut out, &mut 0);
+                check_kept(correct.number, before, C::answers(&correct.image)[0])?;
+            }
+        }
+        Ok(())
+    }
+}
+
+fn check_kept(number: u32, before: u32, after: u32) -> Result<(), String> {
+    match before == 2 || before == after {
+        true => Ok(()),
+        false => Err(format!("{number} went from decision {before} to {after}")),
+    }
+}

@@ -1,0 +1,223 @@
+//! The bytes of docs/FORMAT.md: what the page says is what the engine and the
+//! reference do.
+
+#![cfg(not(feature = "fault"))]
+
+use std::collections::BTreeSet;
+
+use checks::calls::{Calls, Engine, Reference};
+use checks::fields::{Fields, IMAGE_LEN};
+use checks::packing::{kind_of, pack, Entry, INIT, NONE, PROPOSE, ROSTER, TURN, VALUE};
+use checks::page::{self, Line};
+
+const MARK: u8 = 0xA5;
+
+/// What a call is lent and what it gave, as the page's lines go on.
+struct Host {
+    image: Vec<u8>,
+    image_len: usize,
+    out: Vec<u8>,
+    length: usize,
+    answer: u8,
+    /// The image as the last call found it.
+    before: Vec<u8>,
+    /// What the page has yet to say of the last call.
+    unsaid: BTreeSet<&'static str>,
+}
+
+impl Host {
+    fn new() -> Host {
+        Host {
+            image: vec![MARK; IMAGE_LEN],
+            image_len: IMAGE_LEN,
+            out: vec![MARK; 264],
+            length: 0,
+            answer: 0,
+            before: Vec::new(),
+            unsaid: BTreeSet::new(),
+        }
+    }
+
+    fn line<C: Calls>(&mut self, line: &Line) {
+        match line {
+            Line::Start { number, bit } => {
+                self.call(|image, out, length| C::start(*number, *bit, image, out, length));
+            }
+            Line::Tray(tray) => {
+                self.call(|image, out, length| C::tray(image, tray, out, length));
+            }
+            Line::Frame(bytes) => self.sent(bytes),
+            Line::State(text) => {
+                assert!(self.unsaid.remove("state"));
+                assert_eq!(&described(&Fields::of(&self.image)), text);
+            }
+            Line::Refused(refusal) => self.refused(*refusal),
+            Line::ImageLen(length) => self.image_len = *length,
+            Line::OutLen(length) => self.out.resize(*length, MARK),
+            Line::ImageByte { at, byte } => self.image[*at] = *byte,
+        }
+    }
+
+    fn call(&mut self, call: impl Fn(&mut [u8], &mut [u8], &mut usize) -> u8) {
+        assert!(self.unsaid.is_empty(), "unsaid: {:?}", self.unsaid);
+        self.before = self.image.clone();
+        self.out.fill(MARK);
+        self.length = 1;
+        let image = &mut self.image[..self.image_len];
+        self.answer = call(image, &mut self.out, &mut self.length);
+        self.unsaid = match self.answer {
+            0 => BTreeSet::from(["frame", "state"]),
+            _ => BTreeSet::from(["refusal"]),
+        };
+    }
+
+    /// The frame stands in front of the output, which keeps every byte behind it.
+    fn sent(&mut self, bytes: &[u8]) {
+        assert!(self.unsaid.remove("frame"), "refused {}", self.answer);
+        assert_eq!(&self.out[..self.length], bytes);
+        assert!(self.out[self.length..].iter().all(|&byte| byte == MARK));
+    }
+
+    fn refused(&mut self, refusal: u8) {
+        assert_eq!(self.answer, refusal);
+        assert!(self.unsaid.remove("refusal"));
+        assert_eq!(self.length, 0);
+        assert!(self.image == self.before, "the image is kept");
+        assert!(self.out.iter().all(|&byte| byte == MARK));
+    }
+}
+
+/// A state as the page writes it.
+fn described(s: &Fields) -> String {
+    let list = |numbers: &[u32]| match numbers {
+        [] => "-".to_string(),
+        _ => spaced(numbers),
+    };
+    format!(
+        "round {}, bit {}, said {}, strong {}, king {}, decision {}, heard {}, candidates {}, echoes {}",
+        s.round,
+        s.bit,
+        s.said,
+        s.strong,
+        s.king,
+        s.decision,
+        list(&s.heard),
+        list(&s.candidates),
+        list(&s.echoes)
+    )
+}
+
+fn spaced(numbers: &[u32]) -> String {
+    let texts: Vec<String> = numbers.iter().map(u32::to_string).collect();
+    texts.join(" ")
+}
+
+fn run<C: Calls>(blocks: &[Vec<Line>]) {
+    for block in blocks {
+        let mut host = Host::new();
+        for line in block {
+            println!("{line:x?}");
+            host.line::<C>(line);
+        }
+        assert!(host.unsaid.is_empty(), "unsaid: {:?}", host.unsaid);
+    }
+}
+
+#[test]
+fn the_worked_calls_give_what_the_page_says() {
+    let blocks = page::blocks(&page::text("FORMAT.md"));
+    run::<Engine>(&blocks);
+    run::<Reference>(&blocks);
+    let refusal = |line: &Line| match line {
+        Line::Refused(refusal) => Some(*refusal),
+        _ => None,
+    };
+    let refusals: BTreeSet<u8> = blocks.iter().flatten().filter_map(refusal).collect();
+    assert_eq!(refusals, BTreeSet::from([1, 2, 3, 4, 5, 6, 9]));
+}
+
+/// The tray that the page takes apart is the first one that it hands over.
+#[test]
+fn the_table_of_a_tray_is_the_tray_handed_over() {
+    let text = page::text("FORMAT.md");
+    let mut table: Vec<u8> = Vec::new();
+    for row in page::rows(&text, "## A tray") {
+        if let Some(bytes) = page::bytes_in(&row[1]) {
+            assert_eq!(row[0].parse(), Ok(table.len()), "{row:?}");
+            table.extend(bytes);
+        }
+    }
+    let blocks = page::blocks(&text);
+    let first = blocks.iter().flatten().find_map(|line| match line {
+        Line::Tray(tray) => Some(tray),
+        _ => None,
+    });
+    assert_eq!(Some(&table), first);
+}
+
+#[test]
+fn the_frames_are_read_as_the_page_says() {
+    let mut read = BTreeSet::new();
+    for row in page::rows(&page::text("FORMAT.md"), "## A frame") {
+        let Some(bytes) = page::bytes_in(&row[0]) else {
+            continue;
+        };
+        let round: u32 = row[1].parse().expect("a round");
+        let (says, _) = row[2].split_once(':').unwrap_or((&row[2], ""));
+        assert_eq!(read_as(&bytes, round), says, "{row:?}");
+        let said = bytes[5].min(1);
+        let counts = next(&bytes, round, said) != next(&[], round, said);
+        assert_eq!(counts, says != "void", "{row:?}");
+        read.insert((says == "void", kind_of(round)));
+    }
+    let kinds = [INIT, ROSTER, VALUE, PROPOSE, TURN];
+    assert!(kinds.iter().all(|&kind| read.contains(&(false, kind))));
+    assert!(read.iter().any(|&(void, _)| void));
+}
+
+/// What the reference reads, as the page writes it.
+fn read_as(bytes: &[u8], round: u32) -> String {
+    let Some(frame) = reference::frame::read(bytes, round) else {
+        return "void".to_string();
+    };
+    let bit = frame.bit;
+    let numbers = match frame.numbers().collect::<Vec<u32>>() {
+        none if none.is_empty() => "no number".to_string(),
+        some => spaced(&some),
+    };
+    match kind_of(round) {
+        INIT => "init".to_string(),
+        ROSTER => format!("roster of {numbers}"),
+        VALUE => format!("value {bit}"),
+        PROPOSE => format!("propose {bit}"),
+        _ => format!("turn {bit} with {numbers}"),
+    }
+}
+
+/// What the engine makes of a frame from 5. In the state, 5 is king, and the bit
+/// said is the one needed for two thirds of the values, or else not the own one: so
+/// a frame that says something makes a difference.
+fn next(bytes: &[u8], round: u32, said: u8) -> Vec<u8> {
+    let value = kind_of(round) == VALUE;
+    let bit = if value { said } else { 1 - said };
+    let mut image = Fields {
+        number: 7,
+        round,
+        bit,
+        said: if value { bit } else { NONE },
+        strong: 0,
+        king: 5,
+        decision: 2,
+        heard: vec![5, 7],
+        candidates: if round > 2 { vec![5, 7] } else { Vec::new() },
+        echoes: if round > 1 { vec![7] } else { Vec::new() },
+    }
+    .image();
+    let entry = Entry {
+        sender: 5,
+        bytes: bytes.to_vec(),
+    };
+    let answer = Engine::tray(&mut image, &pack(round, &[entry]), &mut [0; 264], &mut 0);
+    assert_eq!(answer, 0);
+    image
+}

@@ -1,0 +1,145 @@
+//! Whole networks of controllers on the compiled engine, against a rushing adversary.
+//!
+//! `cargo test --release -p checks --test networks -- --nocapture` prints the seeds.
+//! CHECKS_SEED moves the first one.
+
+use checks::adversary::{Members, Rushing};
+use checks::calls::{Calls, Engine};
+use checks::network::{Adversary, Network, Seen, View};
+use checks::packing::{frame, Entry, NONE};
+use checks::random::Random;
+use std::ops::RangeInclusive;
+
+fn first_seed() -> u64 {
+    match std::env::var("CHECKS_SEED") {
+        Ok(seed) => seed.parse().expect("CHECKS_SEED is a number"),
+        Err(_) => 1,
+    }
+}
+
+/// One run of a network; the seed fixes who is faulty and all that happens.
+fn run<C: Calls>(size: usize, faulty: usize, seed: u64) -> Result<Seen, String> {
+    let mut random = Random::new(seed);
+    let members = Members::of(&mut random, size, faulty);
+    let mut adversary = Rushing::new(random.word(), &members);
+    let mut network = Network::<C>::start(&members.correct, members.faulty.len(), random.word())?;
+    network.run(&mut adversary)?;
+    Ok(network.seen)
+}
+
+/// Runs with as many faulty ones as may be and with fewer, for some sizes, each with
+/// a seed of its own. Also makes sure that the adversary did bring something about.
+fn run_sizes(sizes: RangeInclusive<usize>, runs: u64) {
+    let mut all = Vec::new();
+    let mut seed = first_seed();
+    println!("sizes {sizes:?}, {runs} runs each, seeds from {seed} on");
+    for size in sizes.clone() {
+        let most = (size - 1) / 3;
+        for _ in 0..runs {
+            let faulty = if seed % 4 == 0 { most / 2 } else { most };
+            let seen = run::<Engine>(size, faulty, seed)
+                .unwrap_or_else(|e| panic!("{size} with {faulty} faulty, seed {seed}: {e}"));
+            all.push(seen);
+            seed += 1;
+        }
+    }
+    let kings = all.iter().filter(|seen| seen.kings_differed).count();
+    let late = all.iter().filter(|seen| seen.last_join > 3).count();
+    let divided = all.iter().filter(|seen| seen.last_divided >= 9).count();
+    println!(
+        "sizes {sizes:?}, {} runs, last seed {}: kings differed in {kings}, a candidate joined late in {late}, \
+         bits differed past phase 1 in {divided}",
+        all.len(),
+        seed - 1
+    );
+    assert!(kings > 0 && late > 0 && divided > 0);
+}
+
+#[test]
+fn small_networks_agree() {
+    run_sizes(1..=10, 400);
+}
+
+#[test]
+fn middle_networks_agree() {
+    run_sizes(11..=31, 12);
+}
+
+#[test]
+fn large_networks_agree() {
+    run_sizes(32..=64, 2);
+}
+
+/// The first seed whose run breaks a claim, and how.
+fn broken<C: Calls>(size: usize, faulty: usize, claim: &str) -> Option<(u64, String)> {
+    let runs = (1..5000).map(|seed| (seed, run::<C>(size, faulty, seed)));
+    runs.filter_map(|(seed, end)| Some((seed, end.err()?)))
+        .find(|(_, broken)| broken.starts_with(claim))
+}
+
+/// The bound is sharp, and the checks can fail: where a third or more are faulty,
+/// each claim breaks in some run. (Where just a third are, the correct ones are two
+/// thirds, and an input that these all have is still decided.)
+#[test]
+fn a_faulty_third_breaks_agreement() {
+    let cases = [
+        (3, 1, "not all decided"),
+        (3, 1, "no agreement"),
+        (6, 2, "not all decided"),
+        (6, 2, "no agreement"),
+        (7, 3, "no correct one"),
+    ];
+    for (size, faulty, claim) in cases {
+        let found = broken::<Engine>(size, faulty, claim);
+        println!("{size} with {faulty} faulty: {found:?}");
+        assert!(found.is_some(), "{size} with {faulty} faulty: {claim}");
+    }
+}
+
+/// With a third rounded down, agreement breaks though few enough are faulty.
+#[cfg(feature = "fault")]
+#[test]
+fn a_network_of_faulty_references_breaks() {
+    use checks::calls::Reference;
+    let found = broken::<Reference>(4, 1, "no agreement");
+    println!("found: {found:?}");
+    assert!(found.is_some());
+}
+
+/// The faulty one of document 01's last trial.
+struct Three;
+
+impl Adversary for Three {
+    fn entries(&mut self, view: &View, receiver: usize) -> Vec<Entry> {
+        let to = view.correct[receiver].number;
+        let bytes = match view.round {
+            1 if to != 9 => frame(1, NONE, &[]),
+            2 if to == 9 => frame(2, NONE, &[3]),
+            _ => return Vec::new(),
+        };
+        vec![Entry { sender: 3, bytes }]
+    }
+}
+
+/// Correct 5, 7, 9 and faulty 3: who is king in which phase, and when all decide.
+#[test]
+fn the_last_trial() {
+    for bits in 0..8u8 {
+        let correct = [(5, bits & 1), (7, bits >> 1 & 1), (9, bits >> 2)];
+        let mut network = Network::<Engine>::start(&correct, 1, 1).expect("a start");
+        let mut kings = Vec::new();
+        while network.correct[0].fields().round < 15 {
+            assert!(network.correct.iter().all(|p| p.fields().undecided()));
+            network.step(&mut Three).expect("an accepted round");
+            let states = network.correct.iter().map(|p| p.fields());
+            kings.push(states.map(|s| s.king).collect::<Vec<_>>());
+        }
+        // kings[t - 2] is after the making of round t.
+        assert_eq!(kings[1], [5, 5, 3]);
+        assert_eq!(kings[4], [5, 5, 5]);
+        let states: Vec<_> = network.correct.iter().map(|p| p.fields()).collect();
+        assert!(states.iter().all(|s| s.candidates == [3, 5, 7, 9]));
+        assert!(states.iter().all(|s| s.decision == states[0].decision));
+        assert!(states.iter().all(|s| !s.undecided()));
+    }
+}
