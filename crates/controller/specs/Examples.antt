@@ -6,7 +6,7 @@
 --     fromThree t p        what the faulty 3 sends to p in round t, as entries of p's tray; fromOthers p vs, what the others of vs send
 --     packed t es          the well packed tray of round t with the entries es
 --     trayTo v vs          the tray of the one whose state is v: what 3 sends to it, then the frames of the others of vs, byte for byte
---     exchange vs              the states after each has taken its tray
+--     exchange vs          the states after each has taken its tray
 --     LateJoiner a b c     what the paper says of the trial, where 5, 7 and 9 bring in the bits a, b, c
 use Prim.Native.Nat.{ℕ, zero, suc, _+_, _*_}
 use mathlib.Core.Bool.{cond, _&&_, _||_}

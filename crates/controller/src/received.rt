@@ -12,7 +12,7 @@ ghost use Rattle.controller.specs.Lists.{In, mem, insertAll};
 ghost use Rattle.controller.specs.State.{soundList};
 ghost use Rattle.controller.specs.Received.{senders, readIn};
 ghost use Rattle.controller.specs.Work.Received.{receivedBy, Hears, Finds, bitUnder, CountsBits, NoEntries, WhereReady, sentCount, CountsFew};
-ghost use Rattle.controller.specs.Work.Lists.{inPlaces, inPlaces};
+ghost use Rattle.controller.specs.Work.Lists.{inPlaces};
 use crate::lists::has_at;
 use crate::lists::insert_at;
 use crate::lists::place_near;

@@ -7,6 +7,12 @@ use controller::state::Answer;
 use controller::state::State;
 use libc::STDIN_FILENO;
 use libc::STDOUT_FILENO;
+use wire::frame::Read;
+use wire::frame::bit_said;
+use wire::frame::kind_said;
+use wire::read::number_count;
+use wire::read::read_frame;
+use wire::tray::part_of;
 
 fn print(text: &[u8]) {
     io::write_all(STDOUT_FILENO, text);
@@ -36,12 +42,18 @@ fn word(first: u8, second: u8, third: u8, fourth: u8) -> u64
     half(first, second) * 65536 + half(third, fourth)
 }
 
-// What was sent is read from the bytes that the call wrote, at the offsets of document 01, "Frames".
-fn print_frame(frame: &[u8; 264]) {
-    io::print_decimal(STDOUT_FILENO, word(frame[0], frame[1], frame[2], frame[3]));
-    print_column(wide(frame[4]));
-    print_column(wide(frame[5]));
-    print_column(half(frame[6], frame[7]));
+// What was sent is read from the bytes that the call wrote. By the calls' contracts they are never void.
+fn print_frame(bytes: &[u8], round: u32) {
+    let read = read_frame(bytes, round);
+    if let Read::Valid(frame) = read {
+        let said = frame.said;
+        io::print_decimal(STDOUT_FILENO, frame.round as u64);
+        print_column(wide(kind_said(said)));
+        print_column(wide(bit_said(said)));
+        print_column(number_count(bytes) as u64);
+    } else {
+        print(b"void");
+    }
 }
 
 fn print_state(state: State) {
@@ -58,7 +70,7 @@ fn print_call(answer: Answer, frame: &[u8; 264]) {
     let refusal = answer.refusal;
     if refusal == 0 {
         let state = answer.state;
-        print_frame(frame);
+        print_frame(part_of(frame, 0, answer.length), state.round);
         print_state(state);
     } else {
         print(b"refused");

@@ -1,6 +1,6 @@
 -- Document 01, "Trials": the starred ones on frames, as rows of a table that a crate above can take into its own.
 --     FrameTrial      bytes, the round in which they are read, and their content, or none where they are void
---     FrameHolds           what a row claims: that `content`, which the reader's promise cites, is just that
+--     FrameHolds      what a row claims: that `content`, which the reader's promise cites, is just that
 --     frameTrials     the rows
 --     All P l         each member of l has P
 use Prim.Native.Nat.{ℕ}

@@ -11,7 +11,8 @@
 --     Openings w s n c m k       there is room to open a list that k controllers sent behind the m open ones
 --     Adds w b l k m .. r        the list l, which k controllers sent, is counted with the own one, or opened behind the m open ones; r are open
 --                                then; AddsTo, the same of lent lists
---     listUnder f e b x i      that frame's list, where f are the state's fields and e the places of its echoes
+--     OwnFirst f n               the own list comes first, n has how many numbers it has
+--     listUnder f e b x i        the list received under x, with its first entry i, where f are the state's fields and e the places of its echoes
 --     Openable f h e b t ..      what opening finds: a state that is ready for the tray b, and room
 --     OpensAll s b s n c m       the m open lists count each number as the received lists do
 use Prim.Native.Nat.{ℕ, zero, suc, _+_, _*_, _<_, _≤_}
@@ -122,7 +123,6 @@ abbrev pub AddsTo : Lent → Lent → List ℕ → ℕ → ℕ → Lent → Lent
 AddsTo own b l weight m starts counts sent r =
     Adds (before own) (before b) l weight m (before starts) (before counts) (before sent) (after starts) (after counts) (after sent) r
 
--- the own list comes first, and has as many numbers as the own frame lists
 abbrev pub OwnFirst : Fields → List ℕ → Type 0
 OwnFirst f n = (getD n 0 0 ≡ sentCount f) × (sentCount f ≤ maxNumbers)
 

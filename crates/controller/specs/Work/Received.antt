@@ -62,10 +62,10 @@ pub record CountsBits (k : ℕ) (r : Received) (n : Counts) : Type 0 where
   pub zeros : n .zeros ≡ count (says k 0) r
   pub ones : n .ones ≡ count (says k 1) r
 
--- how many of the echoes the own frame lists
 abbrev pub CountsFew : ℕ → Counts → Type 0
 CountsFew h n = (n .zeros ≤ h) × (n .ones ≤ h)
 
+-- the echoes, in a roster and a turn
 abbrev pub sentCount : Fields → ℕ
 sentCount f = cond (ltb 0 (maxCount (kindOf (f .round)))) (f .echoes) 0
 

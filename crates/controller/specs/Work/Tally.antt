@@ -10,7 +10,7 @@
 --     Sorts v h c e k r          all numbers are settled, or there are too many
 --     SettlesNext, SortsAll      the same of lent lists
 --     Tallies s b e k r          so it is with the numbers that the state s receives with the tray b
---     GrowsLists s b r c e     so it is with the echoes and candidates that making round 3 + 3r gives, where c and e are the places after it
+--     GrowsLists s b r c e       so it is with the echoes and candidates that making round 3 + 3r gives, where c and e are the places after it
 use Prim.Native.Nat.{ℕ, _+_, _<_, _≤_}
 use mathlib.Core.Bool.{true, false, _&&_}
 use mathlib.Core.List.{List, []}
