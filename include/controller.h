@@ -60,6 +60,11 @@ extern "C" {
 #define CONTROLLER_TOO_MANY_LISTED 8 /* over 64 candidates or echoes would result */
 #define CONTROLLER_BAD_START 9       /* start: number 0, or bit over 1 */
 
+/* controller_frame: why bytes are no frame of a round. */
+#define CONTROLLER_FRAME_LENGTH 11  /* under 8 bytes, or not 8 + 4 * count */
+#define CONTROLLER_FRAME_ROUND 12   /* of another round or kind, or no such round */
+#define CONTROLLER_FRAME_CONTENT 13 /* the bit, the count or the list */
+
 /* controller_decision: no decision yet, and no answer for an unsound image. */
 #define CONTROLLER_UNDECIDED 2
 #define CONTROLLER_NO_ANSWER 255
@@ -97,6 +102,16 @@ uint8_t controller_tray(uint8_t *image, size_t image_len,
                         const uint8_t *tray, size_t tray_len,
                         uint8_t *out, size_t out_len,
                         size_t *length);
+
+/*
+ * Sorts a frame by why it would be passed over in a tray of the round: for whoever
+ * looks for the fault behind void frames. No state and no tray is needed.
+ *
+ * Answers 0 for a frame of that round, or the first that applies of: 11 (the
+ * length), 12 (the round or the kind; also where the round is not 1 to 195), 13
+ * (the bit, the count or the list). 12 points to a late clock, 13 to the card.
+ */
+uint8_t controller_frame(const uint8_t *frame, size_t frame_len, uint32_t round);
 
 /*
  * The decision: 0, 1, or 2 for none yet. 255 for an image that

@@ -14,8 +14,6 @@ ghost use Rattle.controller.specs.Fields.{stateOf};
 ghost use Rattle.controller.specs.Received.{readIn, listIn};
 ghost use Rattle.controller.specs.Work.Opened.{listUnder, endMark, listFrom, Lies, SpanOf, Openable, OpensAll, AddsTo, Openings, OwnFirst, SpanIn, NumbersIn, startLimit};
 use crate::alike::alike;
-use crate::received::NOTHING_SAID;
-use crate::received::frame_bit;
 use crate::received::sent_count;
 use crate::state::Fields;
 use wire::limits::FRAME_HEADER;
@@ -23,6 +21,7 @@ use wire::limits::MAX_NUMBERS;
 use wire::limits::NUMBER_WIDTH;
 use wire::read::number_count;
 use wire::read::read_number;
+use wire::read::read_refusal;
 use wire::tray::Found;
 use wire::tray::entry_place;
 use wire::tray::part_of;
@@ -38,14 +37,14 @@ pub(crate) struct Span {
     pub count: usize,
 }
 
-// How many numbers bytes list in a round; 0 where they are void, which is where nothing is said.
+// How many numbers bytes list in a round; 0 where they are void.
 fn list_count(bytes: &[u8], round: u32) -> usize
     ensures { λ r. ⌜ r ≡ length (listIn (content (before bytes) round)) ⌝ }
 {
-    if frame_bit(bytes, round) == NOTHING_SAID {
-        0
-    } else {
+    if read_refusal(bytes, round) == 0 {
         number_count(bytes)
+    } else {
+        0
     }
 }
 

@@ -108,19 +108,18 @@ pub(crate) fn first_entries(
 }
 
 // In the place of a bit, for bytes that are void and for an entry that is not there. No frame says it.
-pub(crate) const NOTHING_SAID: u8 = 3;
+const NOTHING_SAID: u8 = 3;
 
 // The bit that bytes say in a round.
 pub(crate) fn frame_bit(bytes: &[u8], round: u32) -> u8
     ensures { λ r. ⌜ r ≡ bitIn (content (before bytes) round) ⌝ }
 {
     let read = read_frame(bytes, round);
-    match read {
-        Read::Valid(frame) => {
-            let said = frame.said;
-            bit_said(said)
-        }
-        Read::Void => NOTHING_SAID,
+    if let Read::Valid(frame) = read {
+        let said = frame.said;
+        bit_said(said)
+    } else {
+        NOTHING_SAID
     }
 }
 

@@ -3,6 +3,7 @@ ghost use mathlib.Core.Bool.{cond};
 ghost use mathlib.Core.Path.{_≡_};
 ghost use Prim.Native.Nat.{_≤_};
 ghost use lib.ListN.{length};
+ghost use Rattle.wire.specs.Frame.{readRefusal};
 ghost use Rattle.wire.specs.Lent.{before, after};
 ghost use Rattle.wire.specs.Words.{wordAt};
 ghost use Rattle.controller.specs.Fields.{answerOf};
@@ -25,6 +26,7 @@ use controller::calls::work;
 use controller::sound::fields_of;
 use controller::state::Worked;
 use wire::limits::MAX_NUMBERS;
+use wire::read::read_refusal;
 
 mod image;
 mod layout;
@@ -114,6 +116,14 @@ pub extern "C" fn controller_tray(
     } else {
         no_image(written)
     }
+}
+
+// Why bytes are void in a round, 11, 12 or 13; 0 where they are a frame of it. For whoever sorts damaged frames by their cause.
+#[no_mangle]
+pub extern "C" fn controller_frame(frame: &[u8], round: u32) -> u8
+    ensures { λ r. ⌜ r ≡ readRefusal (before frame) round ⌝ }
+{
+    read_refusal(frame, round)
 }
 
 // The decision of the image's state, 2 for none; 255 for an image that is not sound.

@@ -1,14 +1,14 @@
--- Frames: document 01, "Frames", and the reader's and writer's rows of "Refusals".
+-- Frames: document 01, "Frames", and the reader's and writer's rows of "Refusals"; the reader's as request A2 of document 02 has them.
 --     kindOf t                  the kind of a frame of round t
 --     kindSaid, bitSaid         the paper's kind and bit of each case of `Said`; bitChosen, of each case of `Choice`
 --     saidBy k b                what a frame of kind k with bit b says
 --     bitFits, maxCount         the layout table's rows for the bit and the count, by kind
 --     Content                   what a frame holds: its round, what it says, its numbers
---     readRefusal s t           0, or 11 where the bytes s are void for round t
+--     readRefusal s t           0, or why the bytes s are void for round t: 11, 12 or 13
 --     content s t               the content of the bytes s, read in round t, if they have one
 --     countOf s                 how many numbers the bytes s list; 0 where they have no header
---     readAs o                  the reader's answer for a content or none; numberRead r, the paper's number of each answer
---     bitRead r, bitIn o        the bit that an answer or a content says; 3 for void and none
+--     numberRead r, frameRead r the papers' number of each answer of the reader, and its frame, if it has one
+--     frameIn o                 the frame of a content, without its list; bitIn o, the bit that a content says; 3 for none
 --     writeRefusal c n          0, or the refusal for content c and an output buffer of n bytes: 10, then 3
 --     frameBytes c              the bytes of content c
 -- Bytes of a list are numbers below 256.
@@ -27,8 +27,9 @@ use Rattle.wire.specs.declared.frame.Choice.{Choice}
 use Rattle.wire.specs.declared.frame.Choice.the-variants.{Bit, None}
 use Rattle.wire.specs.declared.frame.Said.{Said}
 use Rattle.wire.specs.declared.frame.Said.the-variants.{Init, Roster, Value, Proposal, Opinion}
+use Rattle.wire.specs.declared.frame.Frame.{Frame}
 use Rattle.wire.specs.declared.frame.Read.{Read}
-use Rattle.wire.specs.declared.frame.Read.the-variants.{Valid, Void}
+use Rattle.wire.specs.declared.frame.Read.the-variants.{Valid, WrongLength, WrongRound, WrongContent}
 use Rattle.wire.specs.declared.frame.Written.{Written}
 
 -- ---- kinds and bits
@@ -100,12 +101,17 @@ roundFits t = leb 1 t && leb t lastRound
 unfoldable pub headFits : List ℕ → ℕ → Bool
 headFits s t = roundFits t && eqb (wordAt s 0) t && eqb (getD s kindAt 0) (kindOf t)
 
-unfoldable pub bodyFits : List ℕ → ℕ → Bool
-bodyFits s t = bitFits (kindOf t) (getD s bitAt 0) && leb (countOf s) (maxCount (kindOf t)) && rising 0 (numbersOf s)
+-- the rows of the bit, the count and the numbers, for a frame of kind k
+abbrev pub listFits : List ℕ → ℕ → Bool
+listFits s k = leb (countOf s) (maxCount k) && rising 0 (numbersOf s)
 
--- each of the three has a number of its own to come, tested in this order
+unfoldable pub bodyFits : List ℕ → ℕ → Bool
+bodyFits s k = bitFits k (getD s bitAt 0) && listFits s k
+
+-- "11 only for a frame under 8 bytes or whose length isn't 8 + 4 × count"; "12 for round or kind, also if the round given is not 1 to 195, 13 for
+-- the rest, tested after 11 in that order"
 unfoldable pub readRefusal : List ℕ → ℕ → ℕ
-readRefusal s t = firstFailed ((lengthFits s, 11) ∷ (headFits s t, 11) ∷ (bodyFits s t, 11) ∷ [])
+readRefusal s t = firstFailed ((lengthFits s, 11) ∷ (headFits s t, 12) ∷ (bodyFits s (kindOf t), 13) ∷ [])
 
 abbrev pub contentOf : List ℕ → ℕ → Content
 contentOf s t = record { round = t; said = saidBy (kindOf t) (getD s bitAt 0); numbers = numbersOf s }
@@ -113,29 +119,34 @@ contentOf s t = record { round = t; said = saidBy (kindOf t) (getD s bitAt 0); n
 unfoldable pub content : List ℕ → ℕ → Option Content
 content s t = cond (eqb (readRefusal s t) 0) (some (contentOf s t)) none
 
--- the answer of `read_frame`; the list stays in the bytes
-abbrev pub readAs : Option Content → Read
-readAs none = Void
-readAs (some c) = Valid (record { round = c .round; said = c .said })
-
--- the paper's number of each case of `Read`, 0 for none
+-- the papers' number of each case of `Read`, 0 for none
 abbrev pub numberRead : Read → ℕ
 numberRead (Valid f) = 0
-numberRead Void = 11
+numberRead WrongLength = 11
+numberRead WrongRound = 12
+numberRead WrongContent = 13
 
--- what `read_frame` promises of its answer r
+-- the frame that each case has
+abbrev pub frameRead : Read → Option Frame
+frameRead (Valid f) = some f
+frameRead WrongLength = none
+frameRead WrongRound = none
+frameRead WrongContent = none
+
+-- round and saying of a content: its list stays in the bytes
+abbrev pub frameIn : Option Content → Option Frame
+frameIn none = none
+frameIn (some c) = some (record { round = c .round; said = c .said })
+
+-- what `read_frame` promises of its answer r. The two together leave no second answer
 pub record FrameReads (s : List ℕ) (t : ℕ) (r : Read) : Type 0 where
   pub number : numberRead r ≡ readRefusal s t
-  pub answer : r ≡ readAs (content s t)
+  pub frame : frameRead r ≡ frameIn (content s t)
 
--- the bit that an answer says; 3, which no frame says, for void
-abbrev pub bitRead : Read → ℕ
-bitRead (Valid f) = bitSaid (f .said)
-bitRead Void = 3
-
--- the bit that a content says, or 3
+-- the bit that a content says; 3, which no frame says, for none
 abbrev pub bitIn : Option Content → ℕ
-bitIn o = bitRead (readAs o)
+bitIn none = 3
+bitIn (some c) = bitSaid (c .said)
 
 -- ---- the writer
 

@@ -39,10 +39,15 @@ pub struct Numbers {
     pub at: [u32; MAX_NUMBERS],
 }
 
-// Document 01's "void" (11): bytes that are no frame of the round expected.
+// What bytes read as in the round expected: a frame, or void, document 01's word, with the cause by which request A2 of document 02 sorts it.
 pub enum Read {
     Valid(Frame),
-    Void,
+    // 11: fewer bytes than a header has, or not as many as the count says.
+    WrongLength,
+    // 12: of another round or kind; or there is no such round.
+    WrongRound,
+    // 13: a bit, a count or a list that its kind does not allow.
+    WrongContent,
 }
 
 // The refusal, 0 for none, and the number of bytes written.

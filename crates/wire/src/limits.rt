@@ -25,6 +25,13 @@ pub const TURN: u8 = 5;
 // Document 01's 2: no bit. Init and roster have it, and a proposal, an opinion or a decision that there is not.
 pub const NO_BIT: u8 = 2;
 
+// Refusals of the reader: why bytes are void.
+pub const WRONG_LENGTH: u8 = 11;
+
+pub const WRONG_ROUND: u8 = 12;
+
+pub const WRONG_CONTENT: u8 = 13;
+
 // Frames: the most numbers, the longest frame, the last round.
 pub const MAX_NUMBERS: usize = 64;
 

@@ -1,14 +1,14 @@
-// The frame reader: document 01, "Frames". A frame's numbers stay in its bytes.
+// The frame reader: document 01, "Frames", and request A2 of document 02. A frame's numbers stay in its bytes.
 ghost use mathlib.Core.Path.{_≡_};
 ghost use mathlib.Core.Bool.{cond};
 ghost use Prim.Native.Nat.{_+_, _*_, _≤_};
-ghost use lib.Dec.{leb, eqb};
+ghost use lib.Dec.{leb};
 ghost use lib.ListN.{length};
 ghost use Rattle.wire.specs.Lent.{before};
 ghost use Rattle.wire.specs.Limits.{frameHeader, numberWidth};
 ghost use Rattle.wire.specs.Numbers.{rising};
 ghost use Rattle.wire.specs.Words.{wordAt, wordsAt};
-ghost use Rattle.wire.specs.Frame.{countOf, lengthFits, headFits, bodyFits, readRefusal, FrameReads};
+ghost use Rattle.wire.specs.Frame.{countOf, lengthFits, headFits, listFits, bodyFits, readRefusal, FrameReads};
 use crate::frame::Frame;
 use crate::frame::Read;
 use crate::frame::bit_fits;
@@ -21,6 +21,9 @@ use crate::limits::COUNT_AT;
 use crate::limits::FRAME_HEADER;
 use crate::limits::KIND_AT;
 use crate::limits::NUMBER_WIDTH;
+use crate::limits::WRONG_CONTENT;
+use crate::limits::WRONG_LENGTH;
+use crate::limits::WRONG_ROUND;
 use crate::word::half;
 use crate::word::word;
 
@@ -88,34 +91,57 @@ fn head_fits(bytes: &[u8], round: u32) -> bool
     round_fits(round) && word(bytes, 0) == round && kind == kind_of(round)
 }
 
-// Whether the bit, the count and the numbers of bytes of a fitting length are such as a frame of the round may have.
-fn body_fits(bytes: &[u8], round: u32) -> bool
+// Whether the numbers of bytes of a fitting length are such as a frame of a kind may list. Most frames list none.
+fn list_fits(bytes: &[u8], kind: u8) -> bool
     requires { ⌜ length (now bytes) ≡ frameHeader + numberWidth * countOf (now bytes) ⌝ }
-    ensures { λ r. ⌜ r ≡ bodyFits (before bytes) round ⌝ }
+    ensures { λ r. ⌜ r ≡ listFits (before bytes) kind ⌝ }
 {
-    let kind = kind_of(round);
-    let bit = bytes[BIT_AT];
     let count = number_count(bytes);
-    bit_fits(kind, bit) && count <= max_count(kind) && numbers_rise(bytes, count)
+    if count == 0 {
+        true
+    } else {
+        count <= max_count(kind) && numbers_rise(bytes, count)
+    }
 }
 
-// Whether the bytes are a frame of a round, and not void.
-fn is_frame(bytes: &[u8], round: u32) -> bool
-    ensures { λ r. ⌜ r ≡ eqb (readRefusal (before bytes) round) 0 ⌝ }
+// Whether the bit and the numbers of bytes of a fitting length are such as a frame of a kind may have.
+fn body_fits(bytes: &[u8], kind: u8) -> bool
+    requires { ⌜ length (now bytes) ≡ frameHeader + numberWidth * countOf (now bytes) ⌝ }
+    ensures { λ r. ⌜ r ≡ bodyFits (before bytes) kind ⌝ }
 {
-    length_fits(bytes) && head_fits(bytes, round) && body_fits(bytes, round)
+    bit_fits(kind, bytes[BIT_AT]) && list_fits(bytes, kind)
 }
 
-// What bytes say in a round, or void (11): for any bytes and any round.
+// Why bytes are void in a round: 11, 12 or 13, tested in this order; 0 where they are a frame. For any bytes and any round.
+pub fn read_refusal(bytes: &[u8], round: u32) -> u8
+    ensures { λ r. ⌜ r ≡ readRefusal (before bytes) round ⌝ }
+{
+    if !length_fits(bytes) {
+        WRONG_LENGTH
+    } else if !head_fits(bytes, round) {
+        WRONG_ROUND
+    } else if !body_fits(bytes, bytes[KIND_AT]) {
+        WRONG_CONTENT
+    } else {
+        0
+    }
+}
+
+// What bytes say in a round, or why they are void: for any bytes and any round.
 pub fn read_frame(bytes: &[u8], round: u32) -> Read
     ensures { λ r. ⌜ FrameReads (before bytes) round r ⌝ }
 {
-    if is_frame(bytes, round) {
+    let refusal = read_refusal(bytes, round);
+    if refusal == 0 {
         Read::Valid(Frame {
             round,
             said: said_by(kind_of(round), bytes[BIT_AT]),
         })
+    } else if refusal == WRONG_LENGTH {
+        Read::WrongLength
+    } else if refusal == WRONG_ROUND {
+        Read::WrongRound
     } else {
-        Read::Void
+        Read::WrongContent
     }
 }

@@ -3,6 +3,7 @@
 pub trait Calls {
     fn start(number: u32, bit: u8, image: &mut [u8], out: &mut [u8], length: &mut usize) -> u8;
     fn tray(image: &mut [u8], tray: &[u8], out: &mut [u8], length: &mut usize) -> u8;
+    fn frame(bytes: &[u8], round: u32) -> u8;
     /// Decision, round, king, then the sizes of heard, candidates and echoes.
     fn answers(image: &[u8]) -> [u32; 6];
 }
@@ -22,6 +23,10 @@ macro_rules! calls_of {
 
             fn tray(image: &mut [u8], tray: &[u8], out: &mut [u8], length: &mut usize) -> u8 {
                 $package::tray(image, tray, out, length)
+            }
+
+            fn frame(bytes: &[u8], round: u32) -> u8 {
+                $package::frame(bytes, round)
             }
 
             fn answers(image: &[u8]) -> [u32; 6] {

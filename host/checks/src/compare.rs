@@ -4,28 +4,34 @@ use crate::calls::{Calls, Engine, Reference};
 use crate::edges::{self, edges};
 use crate::fields::{Fields, IMAGE_LEN};
 use crate::random::Random;
-use crate::{states, trays};
+use crate::{frames, states, trays};
 
 /// How many trays a case hands to one state, one after the other.
 const WALK: usize = 4;
 
-/// How often each answer was given (0 for accepted, else the refusal), and how often
-/// accepted trays came to each edge of the rules.
+/// How many answers there are: 0, for accepted, and the refusals up to 13.
+pub const ANSWERS: usize = 14;
+
+/// How often each answer was given, and how often accepted trays came to each edge of
+/// the rules.
 #[derive(Clone, Default)]
 pub struct Histogram {
-    pub start: [u64; 12],
-    pub tray: [u64; 12],
+    pub start: [u64; ANSWERS],
+    pub tray: [u64; ANSWERS],
+    pub frame: [u64; ANSWERS],
     pub edges: [u64; edges::NAMES.len()],
 }
 
 impl Histogram {
     pub fn calls(&self) -> u64 {
-        self.start.iter().chain(&self.tray).sum()
+        let counts = [&self.start, &self.tray, &self.frame];
+        counts.into_iter().flatten().sum()
     }
 
     pub fn add(&mut self, other: &Histogram) {
         add_all(&mut self.start, &other.start);
         add_all(&mut self.tray, &other.tray);
+        add_all(&mut self.frame, &other.frame);
         add_all(&mut self.edges, &other.edges);
     }
 }
@@ -48,6 +54,7 @@ struct Lent {
 pub fn case(seed: u64, counts: &mut Histogram) -> Result<(), String> {
     let mut random = Random::new(seed);
     let pool = states::pool(&mut random);
+    frame(&mut random, &pool, counts)?;
     let mut lent = Lent {
         image: states::sound(&mut random, &pool).image(),
         out: random.bytes(300),
@@ -65,6 +72,16 @@ pub fn case(seed: u64, counts: &mut Histogram) -> Result<(), String> {
     for _ in 0..WALK {
         tray(&mut random, &pool, &mut lent, counts)?;
     }
+    Ok(())
+}
+
+/// A frame, held against a round.
+fn frame(random: &mut Random, pool: &[u32], counts: &mut Histogram) -> Result<(), String> {
+    let (bytes, round) = frames::frame_and_round(random, pool);
+    let answer = Engine::frame(&bytes, round);
+    differ("answer", answer, Reference::frame(&bytes, round))
+        .map_err(|difference| format!("frame {bytes:02x?} in round {round}: {difference}"))?;
+    counts.frame[usize::from(answer)] += 1;
     Ok(())
 }
 

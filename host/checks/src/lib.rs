@@ -11,7 +11,8 @@
 //! - [`random`]: a small random generator, so that a seed fixes a run;
 //! - [`packing`]: frames and trays, packed by hand;
 //! - [`fields`]: the fields of a state's image, for looking and for building;
-//! - [`states`], [`trays`], [`voids`]: generators, sound, nearly sound and not;
+//! - [`states`], [`trays`], [`frames`], [`voids`]: generators, sound, nearly sound and
+//!   not;
 //! - [`hex`]: bytes written in hex;
 //! - [`page`]: tables and worked calls of the pages in docs/;
 //! - [`compare`]: one call on both, and the first difference;
@@ -26,6 +27,7 @@ pub mod calls;
 pub mod compare;
 pub mod edges;
 pub mod fields;
+pub mod frames;
 pub mod hex;
 pub mod network;
 pub mod packing;

@@ -4,6 +4,8 @@
 //! seeds and how often each answer was given. CHECKS_SEED moves the first seed.
 //! With the feature `fault` the reference is faulty and a mismatch must be found.
 
+#[cfg(not(feature = "fault"))]
+use checks::compare::ANSWERS;
 use checks::compare::{case, Histogram};
 #[cfg(not(feature = "fault"))]
 use checks::edges::NAMES;
@@ -48,6 +50,7 @@ fn the_engine_and_the_reference_agree() {
     println!("{} calls, no mismatch", counts.calls());
     println!("answer of start, count: {:?}", named(&counts.start));
     println!("answer of tray, count: {:?}", named(&counts.tray));
+    println!("answer of frame, count: {:?}", named(&counts.frame));
     for (name, count) in NAMES.iter().zip(counts.edges) {
         println!("{name}: {count}");
         assert!(count >= 1000, "few trays: {name}");
@@ -59,10 +62,13 @@ fn the_engine_and_the_reference_agree() {
     for answer in 0..=8 {
         assert!(counts.tray[answer] >= 1000, "tray: few {answer}");
     }
+    for answer in [0, 11, 12, 13] {
+        assert!(counts.frame[answer] >= 1000, "frame: few {answer}");
+    }
 }
 
 #[cfg(not(feature = "fault"))]
-fn named(counts: &[u64; 12]) -> Vec<(usize, u64)> {
+fn named(counts: &[u64; ANSWERS]) -> Vec<(usize, u64)> {
     counts
         .iter()
         .copied()

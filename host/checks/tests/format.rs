@@ -157,7 +157,8 @@ fn the_table_of_a_tray_is_the_tray_handed_over() {
 
 #[test]
 fn the_frames_are_read_as_the_page_says() {
-    let mut read = BTreeSet::new();
+    let mut kinds = BTreeSet::new();
+    let mut answers = BTreeSet::new();
     for row in page::rows(&page::text("FORMAT.md"), "## A frame") {
         let Some(bytes) = page::bytes_in(&row[0]) else {
             continue;
@@ -165,20 +166,34 @@ fn the_frames_are_read_as_the_page_says() {
         let round: u32 = row[1].parse().expect("a round");
         let (says, _) = row[2].split_once(':').unwrap_or((&row[2], ""));
         assert_eq!(read_as(&bytes, round), says, "{row:?}");
-        let said = bytes[5].min(1);
-        let counts = next(&bytes, round, said) != next(&[], round, said);
-        assert_eq!(counts, says != "void", "{row:?}");
-        read.insert((says == "void", kind_of(round)));
+        let answer = Engine::frame(&bytes, round);
+        assert_eq!(answer, void_number(says), "{row:?}");
+        // No state waits for a tray of a round past the last but one.
+        if round < 195 {
+            let said = bytes.get(5).map_or(0, |&bit| bit.min(1));
+            let counts = next(&bytes, round, said) != next(&[], round, said);
+            assert_eq!(counts, answer == 0, "{row:?}");
+        }
+        if answer == 0 {
+            kinds.insert(kind_of(round));
+        }
+        answers.insert(answer);
     }
-    let kinds = [INIT, ROSTER, VALUE, PROPOSE, TURN];
-    assert!(kinds.iter().all(|&kind| read.contains(&(false, kind))));
-    assert!(read.iter().any(|&(void, _)| void));
+    assert_eq!(kinds, BTreeSet::from([INIT, ROSTER, VALUE, PROPOSE, TURN]));
+    assert_eq!(answers, BTreeSet::from([0, 11, 12, 13]));
+}
+
+/// The number that the page gives for void bytes; 0 for a frame.
+fn void_number(says: &str) -> u8 {
+    let number = says.strip_prefix("void ");
+    number.map_or(0, |number| number.parse().expect("a number"))
 }
 
 /// What the reference reads, as the page writes it.
 fn read_as(bytes: &[u8], round: u32) -> String {
-    let Some(frame) = reference::frame::read(bytes, round) else {
-        return "void".to_string();
+    let frame = match reference::frame::read(bytes, round) {
+        Ok(frame) => frame,
+        Err(void) => return format!("void {}", void as u8),
     };
     let bit = frame.bit;
     let numbers = match frame.numbers().collect::<Vec<u32>>() {

@@ -26,6 +26,7 @@ mod c {
             out_len: usize,
             length: *mut usize,
         ) -> u8;
+        pub fn controller_frame(frame: *const u8, frame_len: usize, round: u32) -> u8;
         pub fn controller_decision(image: *const u8, image_len: usize) -> u8;
         pub fn controller_round(image: *const u8, image_len: usize) -> u32;
         pub fn controller_king(image: *const u8, image_len: usize) -> u32;
@@ -65,6 +66,12 @@ pub fn tray(image: &mut [u8], tray: &[u8], out: &mut [u8], length: &mut usize) -
             length,
         )
     }
+}
+
+/// 0 for a frame of a round, else why the bytes are void for it.
+pub fn frame(bytes: &[u8], round: u32) -> u8 {
+    // SAFETY: pointer and length are those of a slice, which is only read.
+    unsafe { c::controller_frame(bytes.as_ptr(), bytes.len(), round) }
 }
 
 /// The decision: 0, 1, or 2 for none; 255 for an image that is not sound.

@@ -61,21 +61,34 @@ impl<'a> Frame<'a> {
     }
 }
 
-/// Reads a frame sent in `round`; nothing if it is void for that round.
+/// Why bytes are void, with document 02's numbers.
+#[derive(Clone, Copy, Debug, PartialEq, Eq)]
+#[repr(u8)]
+pub enum Void {
+    Length = 11,
+    Round = 12,
+    Content = 13,
+}
+
+/// Reads a frame sent in `round`, or says why it is void for that round.
 #[inline]
-pub fn read(bytes: &[u8], round: u32) -> Option<Frame<'_>> {
-    let (header, list) = bytes.split_first_chunk::<HEADER>()?;
+pub fn read(bytes: &[u8], round: u32) -> Result<Frame<'_>, Void> {
+    let (header, list) = bytes.split_first_chunk::<HEADER>().ok_or(Void::Length)?;
     let [r0, r1, r2, r3, kind, bit, c0, c1] = *header;
-    let expected = Kind::of_round(round);
     let count = usize::from(u16::from_be_bytes([c0, c1]));
+    if list.len() != 4 * count {
+        return Err(Void::Length);
+    }
+    let expected = Kind::of_round(round);
+    let sent = u32::from_be_bytes([r0, r1, r2, r3]);
+    if !(1..=LAST_ROUND).contains(&round) || sent != round || kind != expected as u8 {
+        return Err(Void::Round);
+    }
     let most = if expected.has_list() { MAX_NUMBERS } else { 0 };
-    let sound = u32::from_be_bytes([r0, r1, r2, r3]) == round
-        && kind == expected as u8
-        && expected.allows_bit(bit)
-        && count <= most
-        && list.len() == 4 * count
-        && is_rising(list);
-    sound.then_some(Frame { bit, list })
+    if !expected.allows_bit(bit) || count > most || !is_rising(list) {
+        return Err(Void::Content);
+    }
+    Ok(Frame { bit, list })
 }
 
 /// Writes a frame in front of `out`, which has room for it, and says its length.

@@ -84,6 +84,11 @@ pub fn echoes(image: &[u8]) -> u32 {
     sound_state(image).map_or(0, |state| state.echoes.len() as u32)
 }
 
+/// 0 for a frame of a round, else why the bytes are void for it.
+pub fn frame(bytes: &[u8], round: u32) -> u8 {
+    frame::read(bytes, round).map_or_else(|void| void as u8, |_| 0)
+}
+
 fn sound_state(image: &[u8]) -> Option<State> {
     let mut state = State::blank();
     state.load(image)?;

@@ -139,7 +139,7 @@ impl<'a> Received<'a> {
         let round = state.round;
         self.frames[..self.len]
             .iter()
-            .filter_map(move |&(sender, bytes)| Some((sender, frame::read(bytes, round)?)))
+            .filter_map(move |&(sender, bytes)| Some((sender, frame::read(bytes, round).ok()?)))
     }
 
     /// A bound for how many numbers the frames list.
@@ -153,6 +153,6 @@ impl<'a> Received<'a> {
         let (_, bytes) = self.frames[..self.len]
             .iter()
             .find(|(sender, _)| *sender == number)?;
-        frame::read(bytes, state.round)
+        frame::read(bytes, state.round).ok()
     }
 }

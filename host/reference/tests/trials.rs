@@ -2,7 +2,8 @@
 
 #![cfg(not(feature = "fault"))]
 
-use reference::{frame, reaches_third, reaches_two_thirds, IMAGE_LEN};
+use reference::frame::{self, Void};
+use reference::{reaches_third, reaches_two_thirds, IMAGE_LEN};
 
 const WORKED: u8 = 0;
 const INIT: [u8; 8] = [0, 0, 0, 1, 1, 2, 0, 0];
@@ -76,11 +77,29 @@ fn the_thresholds_of_the_trials() {
 
 #[test]
 fn init_reads_and_a_wrong_bit_makes_it_void() {
-    assert!(frame::read(&INIT, 1).is_some());
-    assert!(frame::read(&INIT, 2).is_none());
+    assert!(frame::read(&INIT, 1).is_ok());
     let mut wrong = INIT;
     wrong[5] = 0;
-    assert!(frame::read(&wrong, 1).is_none());
+    assert_eq!(frame::read(&wrong, 1), Err(Void::Content));
+}
+
+#[test]
+fn the_length_is_tested_before_the_round_and_the_round_before_the_rest() {
+    let mut wrong = INIT;
+    wrong[5] = 0;
+    assert_eq!(reference::frame(&INIT, 1), 0);
+    assert_eq!(reference::frame(&wrong, 1), 13);
+    for round in [2, 4, 0, 196, u32::MAX] {
+        assert_eq!(reference::frame(&wrong, round), 12);
+        assert_eq!(reference::frame(&wrong[..7], round), 11);
+        assert_eq!(reference::frame(&[&wrong[..], &[0]].concat(), round), 11);
+    }
+    let mut other_kind = INIT;
+    other_kind[4] = 2;
+    assert_eq!(reference::frame(&other_kind, 1), 12);
+    // A round that there is not, though the frame says it.
+    assert_eq!(reference::frame(&[0, 0, 0, 196, 4, 0, 0, 0], 196), 12);
+    assert_eq!(reference::frame(&[0, 0, 0, 0, 3, 0, 0, 0], 0), 12);
 }
 
 #[test]
@@ -89,15 +108,15 @@ fn rosters_rise() {
     let read = frame::read(&five_seven, 2).expect("a roster");
     assert!(read.numbers().eq([5, 7]));
     for list in [[7, 5], [5, 5], [0, 5]] {
-        assert!(frame::read(&roster(&list), 2).is_none());
+        assert_eq!(frame::read(&roster(&list), 2), Err(Void::Content));
     }
 }
 
 #[test]
 fn a_list_of_64_reads_and_one_of_65_is_void() {
     let numbers: Vec<u32> = (1..=65).collect();
-    assert!(frame::read(&roster(&numbers[..64]), 2).is_some());
-    assert!(frame::read(&roster(&numbers), 2).is_none());
+    assert!(frame::read(&roster(&numbers[..64]), 2).is_ok());
+    assert_eq!(frame::read(&roster(&numbers), 2), Err(Void::Content));
 }
 
 #[test]

@@ -22,5 +22,5 @@ unfolding kindOf saidBy bitFits maxCount lengthFits roundFits headFits bodyFits 
 trials-hold =
     (refl, refl) and (refl, refl) and (refl, refl) and (refl, refl) and (refl, refl) and
     (refl, refl) and (refl, refl) and (refl, refl) and (refl, refl) and (refl, refl) and
-    refl and refl and refl and refl and refl and
+    (refl, refl) and (refl, refl) and (refl, refl) and (refl, refl) and (refl, refl) and
     refl and refl and refl and refl and refl and refl and tt

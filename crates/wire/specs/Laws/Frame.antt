@@ -2,7 +2,7 @@
 use Prim.Native.Nat.{ℕ, zero, suc, _+_, _*_, _%_, _≤_}
 use mathlib.Core.Bool.{Bool, true, false, cond, _&&_, and-eq-true-iff}
 use mathlib.Core.List.{List, [], _∷_, _++_, append-nil}
-use mathlib.Core.Option.{some, none}
+use mathlib.Core.Option.{Option, some, none}
 use mathlib.Core.Logic.{_≢_}
 use mathlib.Core.Path.{_≡_, refl, sym, ap, _∙_}
 use borrow.Author.Tests.{leb-true, eqb-true, eqb-false, le-leb, eq-eqb, ne-eqb}
@@ -16,14 +16,16 @@ use Rattle.wire.specs.declared.frame.Choice.{Choice}
 use Rattle.wire.specs.declared.frame.Choice.the-variants.{Bit, None}
 use Rattle.wire.specs.declared.frame.Said.{Said}
 use Rattle.wire.specs.declared.frame.Said.the-variants.{Init, Roster, Value, Proposal, Opinion}
+use Rattle.wire.specs.declared.frame.Frame.{Frame}
 use Rattle.wire.specs.declared.frame.Read.{Read}
+use Rattle.wire.specs.declared.frame.Read.the-variants.{Valid}
 use Rattle.wire.specs.Words.{halfAt, wordAt, wordsAt, wordsBytes, Below}
 use Rattle.wire.specs.Numbers.{rising}
 use Rattle.wire.specs.Laws.Words.{half-back, word-back, words-behind, words-back, words-length, byte-drop, half-drop, word-drop, words-drop}
 use Rattle.wire.specs.Refusal.{firstFailed}
 use Rattle.wire.specs.Frame.{kindOf, bitChosen, kindSaid, bitSaid, chosenBy, saidBy, bitFits, maxCount, Content}
-use Rattle.wire.specs.Frame.{countOf, numbersOf, lengthFits, roundFits, headFits, bodyFits, readRefusal, contentOf, content}
-use Rattle.wire.specs.Frame.{readAs, numberRead, FrameReads, chosenFits, saidFits, writable, headerBytes, frameBytes}
+use Rattle.wire.specs.Frame.{countOf, numbersOf, lengthFits, roundFits, headFits, listFits, bodyFits, readRefusal, contentOf, content}
+use Rattle.wire.specs.Frame.{numberRead, frameRead, frameIn, bitIn, FrameReads, chosenFits, saidFits, writable, headerBytes, frameBytes}
 
 max-count-bound : (k : ℕ) → maxCount k ≤ maxNumbers
 unfolding maxCount
@@ -35,7 +37,7 @@ max-count-bound k = pick (eqb k 2) (eqb k 5)
     pick false false = omega arith
 
 -- bytes with a header list as many numbers as two of its bytes say
-count-is : (s : List ℕ) → frameHeader ≤ length s → countOf s ≡ halfAt s countAt
+pub count-is : (s : List ℕ) → frameHeader ≤ length s → countOf s ≡ halfAt s countAt
 count-is s h = rw (le-leb frameHeader (length s) h)
 
 pub length-fits : (s : List ℕ) → lengthFits s ≡ true → length s ≡ frameHeader + numberWidth * countOf s
@@ -45,39 +47,61 @@ length-fits s h = eqb-true _ _ h
 -- ---- reading
 
 -- nothing is refused exactly if the three tests of the reader are passed
-pub none-refused : (s : List ℕ) (t : ℕ) → eqb (readRefusal s t) 0 ≡ (lengthFits s && headFits s t && bodyFits s t)
+none-refused : (s : List ℕ) (t : ℕ) → eqb (readRefusal s t) 0 ≡ (lengthFits s && headFits s t && bodyFits s (kindOf t))
 unfolding readRefusal
-none-refused s t = pick (lengthFits s) (headFits s t) (bodyFits s t)
+none-refused s t = pick (lengthFits s) (headFits s t) (bodyFits s (kindOf t))
   where
-    pick : (a b d : Bool) → eqb (firstFailed ((a, 11) ∷ (b, 11) ∷ (d, 11) ∷ [])) 0 ≡ (a && b && d)
+    pick : (a b d : Bool) → eqb (firstFailed ((a, 11) ∷ (b, 12) ∷ (d, 13) ∷ [])) 0 ≡ (a && b && d)
     pick false b d = refl
     pick true false d = refl
     pick true true false = refl
     pick true true true = refl
 
-content-is : (s : List ℕ) (t : ℕ) → content s t ≡ cond (lengthFits s && headFits s t && bodyFits s t) (some (contentOf s t)) none
+pub content-is : (s : List ℕ) (t : ℕ) → content s t ≡ cond (lengthFits s && headFits s t && bodyFits s (kindOf t)) (some (contentOf s t)) none
 unfolding content
 content-is s t = rw (none-refused s t)
 
+-- the last of the three tests is left
+pub last-refusal : (s : List ℕ) (t : ℕ) → readRefusal s t ≢ 0 → readRefusal s t ≢ 11 → readRefusal s t ≢ 12 → readRefusal s t ≡ 13
+unfolding readRefusal
+last-refusal s t = pick (lengthFits s) (headFits s t) (bodyFits s (kindOf t))
+  where
+    pick : (a b d : Bool) → let n = firstFailed ((a, 11) ∷ (b, 12) ∷ (d, 13) ∷ []) in n ≢ 0 → n ≢ 11 → n ≢ 12 → n ≡ 13
+    pick false b d p q r = absurd (q refl)
+    pick true false d p q r = absurd (r refl)
+    pick true true false p q r = refl
+    pick true true true p q r = absurd (p refl)
+
 -- bytes that are not refused have a header
-pub frame-header : (s : List ℕ) (t : ℕ) → eqb (readRefusal s t) 0 ≡ true → frameHeader ≤ length s
+pub frame-header : (s : List ℕ) (t : ℕ) → readRefusal s t ≡ 0 → frameHeader ≤ length s
 frame-header s t h =
-    let e = and-eq-true-iff (lengthFits s && headFits s t) (bodyFits s t) .0 (sym (none-refused s t) ∙ h) in
+    let e = and-eq-true-iff (lengthFits s && headFits s t) (bodyFits s (kindOf t)) .0 (sym (none-refused s t) ∙ eq-eqb _ _ h) in
     omega (arith, length-fits s (and-eq-true-iff (lengthFits s) (headFits s t) .0 (e .0) .0))
 
--- the answer alone gives the whole promise
-pub frame-reads : (s : List ℕ) (t : ℕ) (r : Read) → r ≡ readAs (content s t) → FrameReads s t r
-unfolding content readRefusal
-frame-reads s t r e = record { number = ap numberRead e ∙ pick (lengthFits s) (headFits s t) (bodyFits s t); answer = e }
-  where
-    refusal : Bool → Bool → Bool → ℕ
-    refusal a b d = firstFailed ((a, 11) ∷ (b, 11) ∷ (d, 11) ∷ [])
+-- an answer with the right number, and with the frame where that is 0
+pub frame-reads : (s : List ℕ) (t : ℕ) → readRefusal s t ≡ 0
+    → FrameReads s t (Valid (record { round = t; said = saidBy (kindOf t) (getD s bitAt 0) }))
+unfolding content
+frame-reads s t h = record { number = sym h; frame = rw (eq-eqb _ _ h) }
 
-    pick : (a b d : Bool) → numberRead (readAs (cond (eqb (refusal a b d) 0) (some (contentOf s t)) none)) ≡ refusal a b d
-    pick false b d = refl
-    pick true false d = refl
-    pick true true false = refl
-    pick true true true = refl
+pub void-reads : (s : List ℕ) (t : ℕ) (r : Read) → frameRead r ≡ none → numberRead r ≡ readRefusal s t → readRefusal s t ≢ 0 → FrameReads s t r
+unfolding content
+void-reads s t r empty number h = record { number = number; frame = empty ∙ rw (ne-eqb _ _ h) }
+
+-- what an answer says is what the content says
+pub bit-read : (s : List ℕ) (t : ℕ) (r : Read) (f : Frame) → FrameReads s t r → r ≡ Valid f → bitSaid (f .said) ≡ bitIn (content s t)
+bit-read s t r f h e = pick (content s t) (sym (h .frame) ∙ ap frameRead e)
+  where
+    pick : (o : Option Content) → frameIn o ≡ some f → bitSaid (f .said) ≡ bitIn o
+    pick none e = let z : _≡_ {A = ℕ} 0 1 = cc in absurd (omega arith)
+    pick (some c) e = cc
+
+pub nothing-read : (s : List ℕ) (t : ℕ) (r : Read) → FrameReads s t r → frameRead r ≡ none → 3 ≡ bitIn (content s t)
+nothing-read s t r h e = pick (content s t) (sym (h .frame) ∙ e)
+  where
+    pick : (o : Option Content) → frameIn o ≡ none → 3 ≡ bitIn o
+    pick none e = refl
+    pick (some c) e = let z : _≡_ {A = ℕ} 0 1 = cc in absurd (omega arith)
 
 -- "Length 0 is a void frame"
 pub empty-void : (t : ℕ) → content [] t ≡ none
@@ -178,7 +202,7 @@ head-written : (c : Content) → Writable c → headFits (frameBytes c) (c .roun
 unfolding headFits frameBytes
 head-written c w = rw (w .round, word-back (c .round), eq-eqb (c .round) (c .round) refl, eq-eqb (kindSaid (c .said)) (kindOf (c .round)) (w .kind))
 
-body-written : (c : Content) → Writable c → bodyFits (frameBytes c) (c .round) ≡ true
+body-written : (c : Content) → Writable c → bodyFits (frameBytes c) (kindOf (c .round)) ≡ true
 unfolding bodyFits frameBytes
 body-written c w =
     rw (
@@ -257,15 +281,15 @@ said-allowed k b =
 pub record ReadFrom (s : List ℕ) (t : ℕ) (c : Content) : Type 0 where
   pub whole : lengthFits s ≡ true
   pub head : headFits s t ≡ true
-  pub body : bodyFits s t ≡ true
+  pub body : bodyFits s (kindOf t) ≡ true
   pub content : contentOf s t ≡ c
 
 pub content-gives : (s : List ℕ) (t : ℕ) (c : Content) → content s t ≡ some c → ReadFrom s t c
-content-gives s t c e = pick (lengthFits s && headFits s t && bodyFits s t) refl (sym (content-is s t) ∙ e)
+content-gives s t c e = pick (lengthFits s && headFits s t && bodyFits s (kindOf t)) refl (sym (content-is s t) ∙ e)
   where
-    pick : (f : Bool) → (lengthFits s && headFits s t && bodyFits s t) ≡ f → cond f (some (contentOf s t)) none ≡ some c → ReadFrom s t c
+    pick : (f : Bool) → (lengthFits s && headFits s t && bodyFits s (kindOf t)) ≡ f → cond f (some (contentOf s t)) none ≡ some c → ReadFrom s t c
     pick true h q =
-        let e₂ = and-eq-true-iff (lengthFits s && headFits s t) (bodyFits s t) .0 h in
+        let e₂ = and-eq-true-iff (lengthFits s && headFits s t) (bodyFits s (kindOf t)) .0 h in
         let e₁ = and-eq-true-iff (lengthFits s) (headFits s t) .0 (e₂ .0) in
         record { whole = e₁ .0; head = e₁ .1; body = e₂ .1; content = cc }
     pick false h q = let z : _≡_ {A = ℕ} 0 1 = cc in absurd (omega arith)
@@ -295,29 +319,29 @@ frame-split s b e =
     (word-drop s b 0 (omega arith))
 
 -- what the second and the third test of the reader give
-record HeadFits (s : List ℕ) (t : ℕ) : Type 0 where
-  round : roundFits t ≡ true
-  sent : wordAt s 0 ≡ t
-  kind : getD s kindAt 0 ≡ kindOf t
+pub record HeadFits (s : List ℕ) (t : ℕ) : Type 0 where
+  pub round : roundFits t ≡ true
+  pub sent : wordAt s 0 ≡ t
+  pub kind : getD s kindAt 0 ≡ kindOf t
 
-head-gives : (s : List ℕ) (t : ℕ) → headFits s t ≡ true → HeadFits s t
+pub head-gives : (s : List ℕ) (t : ℕ) → headFits s t ≡ true → HeadFits s t
 unfolding headFits
 head-gives s t h =
     let e₂ = and-eq-true-iff (roundFits t && eqb (wordAt s 0) t) (eqb (getD s kindAt 0) (kindOf t)) .0 h in
     let e₁ = and-eq-true-iff (roundFits t) (eqb (wordAt s 0) t) .0 (e₂ .0) in
     record { round = e₁ .0; sent = eqb-true _ _ (e₁ .1); kind = eqb-true _ _ (e₂ .1) }
 
-record BodyFits (s : List ℕ) (t : ℕ) : Type 0 where
-  bit : bitFits (kindOf t) (getD s bitAt 0) ≡ true
-  count : countOf s ≤ maxCount (kindOf t)
+record BodyFits (s : List ℕ) (k : ℕ) : Type 0 where
+  bit : bitFits k (getD s bitAt 0) ≡ true
+  count : countOf s ≤ maxCount k
   rise : rising 0 (numbersOf s) ≡ true
 
-body-gives : (s : List ℕ) (t : ℕ) → bodyFits s t ≡ true → BodyFits s t
+body-gives : (s : List ℕ) (k : ℕ) → bodyFits s k ≡ true → BodyFits s k
 unfolding bodyFits
-body-gives s t h =
-    let e₂ = and-eq-true-iff (bitFits (kindOf t) (getD s bitAt 0) && leb (countOf s) (maxCount (kindOf t))) (rising 0 (numbersOf s)) .0 h in
-    let e₁ = and-eq-true-iff (bitFits (kindOf t) (getD s bitAt 0)) (leb (countOf s) (maxCount (kindOf t))) .0 (e₂ .0) in
-    record { bit = e₁ .0; count = leb-true _ _ (e₁ .1); rise = e₂ .1 }
+body-gives s k h =
+    let e₁ = and-eq-true-iff (bitFits k (getD s bitAt 0)) (listFits s k) .0 h in
+    let e₂ = and-eq-true-iff (leb (countOf s) (maxCount k)) (rising 0 (numbersOf s)) .0 (e₁ .1) in
+    record { bit = e₁ .0; count = leb-true _ _ (e₂ .0); rise = e₂ .1 }
 
 pub writes-read : (s : List ℕ) (t : ℕ) (c : Content) → Below 256 s → content s t ≡ some c → frameBytes c ≡ s
 unfolding frameBytes
@@ -326,7 +350,7 @@ writes-read s t c b e =
     let h = head-gives s t (g .head) in
     let k = kind-range t in
     let kind = said-kind (kindOf t) (getD s bitAt 0) (k .0) (k .1) ∙ sym (h .kind) in
-    let bit = said-bit (kindOf t) (getD s bitAt 0) (k .0) (k .1) (body-gives s t (g .body) .bit) in
+    let bit = said-bit (kindOf t) (getD s bitAt 0) (k .0) (k .1) (body-gives s (kindOf t) (g .body) .bit) in
     let count = words-length s frameHeader (countOf s) in
     ap frameBytes (sym (g .content))
     ∙ rw (kind, bit, count, sym (h .sent)) (frame-split s b (length-fits s (g .whole)))
@@ -336,7 +360,7 @@ unfolding writable
 read-writable s t c e =
     let g = content-gives s t c e in
     let h = head-gives s t (g .head) in
-    let d = body-gives s t (g .body) in
+    let d = body-gives s (kindOf t) (g .body) in
     let k = kind-range t in
     let kind = said-kind (kindOf t) (getD s bitAt 0) (k .0) (k .1) in
     let count : length (numbersOf s) ≤ maxCount (kindOf t) = rw (words-length s frameHeader (countOf s)) (d .count) in
@@ -347,4 +371,4 @@ read-writable s t c e =
 pub read-short : (s : List ℕ) (t : ℕ) (c : Content) → content s t ≡ some c → length s ≤ maxFrame
 read-short s t c e =
     let g = content-gives s t c e in
-    omega (arith, length-fits s (g .whole), body-gives s t (g .body) .count, max-count-bound (kindOf t))
+    omega (arith, length-fits s (g .whole), body-gives s (kindOf t) (g .body) .count, max-count-bound (kindOf t))
