@@ -101,7 +101,7 @@ roundFits t = leb 1 t && leb t lastRound
 unfoldable pub headFits : List ℕ → ℕ → Bool
 headFits s t = roundFits t && eqb (wordAt s 0) t && eqb (getD s kindAt 0) (kindOf t)
 
--- the rows of the bit, the count and the numbers, for a frame of kind k
+-- the rows of the count and the numbers, for a frame of kind k; and with them that of the bit
 abbrev pub listFits : List ℕ → ℕ → Bool
 listFits s k = leb (countOf s) (maxCount k) && rising 0 (numbersOf s)
 
@@ -138,7 +138,7 @@ abbrev pub frameIn : Option Content → Option Frame
 frameIn none = none
 frameIn (some c) = some (record { round = c .round; said = c .said })
 
--- what `read_frame` promises of its answer r. The two together leave no second answer
+-- what `read_frame` promises of its answer r. No other answer has both
 pub record FrameReads (s : List ℕ) (t : ℕ) (r : Read) : Type 0 where
   pub number : numberRead r ≡ readRefusal s t
   pub frame : frameRead r ≡ frameIn (content s t)

@@ -4,21 +4,25 @@
 --     sorted, cause-number              each number is given in its case, and in no other: the cases cover everything and exclude each other
 --     other-round                       the late clock: a whole frame of another round gets 12
 --     content-damaged                   the card: a frame whose bit or list is damaged gets 13
+--     one-answer                        what the reader promises fixes its answer
 use Prim.Native.Nat.{ℕ, _+_, _*_, _≤_, _<_}
 use mathlib.Core.Bool.{Bool, true, false, cond, _&&_, and-eq-true-iff}
-use mathlib.Core.List.{List, [], _∷_}
+use mathlib.Core.List.{List}
 use mathlib.Core.Logic.{_⊎_, inl, inr, _≢_}
 use mathlib.Core.Option.{Option, some, none}
 use mathlib.Core.Path.{_≡_, refl, sym, ap, _∙_}
-use borrow.Author.Tests.{leb-true, leb-false, eqb-true, eqb-false, le-leb, lt-leb, eq-eqb, ne-eqb}
+use borrow.Author.Tests.{leb-true, leb-false, eqb-false, le-leb}
 use native.Mathlib.Omega.{arith}
 use lib.Dec.{leb, eqb}
 use lib.ListN.{length, getD}
 use Rattle.wire.specs.Limits.{frameHeader, numberWidth, kindAt, countAt, lastRound}
 use Rattle.wire.specs.Words.{halfAt, wordAt}
-use Rattle.wire.specs.Refusal.{firstFailed}
-use Rattle.wire.specs.Frame.{kindOf, Content, countOf, lengthFits, roundFits, headFits, bodyFits, readRefusal, contentOf, content}
+use Rattle.wire.specs.Frame.{kindOf, Content, lengthFits, roundFits, headFits, bodyFits, readRefusal, contentOf, content}
+use Rattle.wire.specs.Frame.{numberRead, frameRead, FrameReads}
 use Rattle.wire.specs.Laws.Frame.{count-is, length-fits, content-is, content-gives, head-gives}
+use Rattle.wire.specs.declared.frame.Frame.{Frame}
+use Rattle.wire.specs.declared.frame.Read.{Read}
+use Rattle.wire.specs.declared.frame.Read.the-variants.{Valid, WrongLength, WrongRound, WrongContent}
 
 -- "a frame under 8 bytes or whose length isn't 8 + 4 × count"
 abbrev pub LengthWrong : List ℕ → Type 0
@@ -151,3 +155,21 @@ content-damaged s s′ t c e kept void = cause-number s′ t (Rest whole head vo
     head (inl out) = round-right s t (content-gives s t c e .head) (inl out)
     head (inr (inl q)) = round-right s t (content-gives s t c e .head) (inr (inl (λ p. q (kept .round ∙ p))))
     head (inr (inr q)) = round-right s t (content-gives s t c e .head) (inr (inr (λ p. q (kept .kind ∙ p))))
+
+-- ---- the reader's answer
+
+-- the case with a frame, or with a number
+answer : Option Frame → ℕ → Read
+answer (some f) n = Valid f
+answer none n = cond (eqb n 11) WrongLength (cond (eqb n 12) WrongRound WrongContent)
+
+answer-back : (r : Read) → answer (frameRead r) (numberRead r) ≡ r
+unfolding answer
+answer-back (Valid f) = refl
+answer-back WrongLength = refl
+answer-back WrongRound = refl
+answer-back WrongContent = refl
+
+pub one-answer : (s : List ℕ) (t : ℕ) (q r : Read) → FrameReads s t q → FrameReads s t r → q ≡ r
+one-answer s t q r h k =
+    sym (answer-back q) ∙ rw (h .frame ∙ sym (k .frame), h .number ∙ sym (k .number)) (answer-back r)
