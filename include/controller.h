@@ -61,9 +61,9 @@ extern "C" {
 #define CONTROLLER_BAD_START 9       /* start: number 0, or bit over 1 */
 
 /* controller_frame: why bytes are no frame of a round. */
-#define CONTROLLER_FRAME_LENGTH 11  /* under 8 bytes, or not 8 + 4 * count */
-#define CONTROLLER_FRAME_ROUND 12   /* of another round or kind, or no such round */
-#define CONTROLLER_FRAME_CONTENT 13 /* the bit, the count or the list */
+#define CONTROLLER_WRONG_LENGTH 11  /* under 8 bytes, or not 8 + 4 * count */
+#define CONTROLLER_WRONG_ROUND 12   /* of another round or kind, or no such round */
+#define CONTROLLER_WRONG_CONTENT 13 /* the bit, the count or the list */
 
 /* controller_decision: no decision yet, and no answer for an unsound image. */
 #define CONTROLLER_UNDECIDED 2

@@ -14,7 +14,7 @@
 --     OwnFirst f n               the own list comes first, n has how many numbers it has
 --     listUnder f e b x i        the list received under x, with its first entry i, where f are the state's fields and e the places of its echoes
 --     Openable f h e b t ..      what opening finds: a state that is ready for the tray b, and room
---     OpensAll s b s n c m       the m open lists count each number as the received lists do
+--     OpensAll v b s n c m       the m open lists count each number as the lists that the state v receives do
 use Prim.Native.Nat.{ℕ, zero, suc, _+_, _*_, _<_, _≤_}
 use mathlib.Core.Bool.{cond}
 use mathlib.Core.List.{List, []}
