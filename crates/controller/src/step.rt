@@ -38,12 +38,13 @@ fn named(next: Fields, was: u8, candidates: &[u32; MAX_NUMBERS], phase: usize) -
     ensures { λ r. ⌜ ((h e : List ℕ) → stateOf r h (before candidates) e ≡ namedState (stateOf next h (before candidates) e) was phase) ⌝ }
 {
     let mut made = next;
+    let king = king_at(candidates, next.candidates, phase);
     if decides(was, next.candidates, phase) {
         made.decision = next.bit;
         made.king = 0;
         made
     } else if was == NO_BIT {
-        made.king = king_at(candidates, next.candidates, phase);
+        made.king = king;
         made
     } else {
         made.king = 0;

@@ -8,15 +8,15 @@ use Rattle.controller.specs.Work.Step.{namedState}
 use Rattle.controller.proofs.step.named.Statement.{statement}
 use Rattle.controller.proofs.step.named.Tie as tie
 
-decides-requires : tie.Need-decides-requires
-decides-requires c κs = search needs
-
 king-at-requires : tie.Need-king-at-requires
 king-at-requires c κs = search needs
 
+decides-requires : tie.Need-decides-requires
+decides-requires c κs = search needs
+
 -- the test is that of (c)
 stops : (c : tie.After-decides)
-    → let a = c .before .args in
+    → let a = c .before .before .args in
     (eqb (a .was) 2 && leb (a .next .candidates) (a .phase)) ≡ c .decides .result
 stops c = sym (c .decides .ensures)
 
@@ -27,11 +27,12 @@ returns c = λ h e. rw (stops (c .before) ∙ c .if1 .taken, and-false)
 returns-2 : tie.Need-returns-2
 unfolding namedState
 returns-2 c = λ h e.
-    rw (stops (c .before .before .before) ∙ c .before .before .if1 .left, eq-eqb _ _ (c .before .if2 .taken), c .king-at .ensures)
+    let test = c .before .before in
+    rw (stops test ∙ c .before .if1 .left, eq-eqb _ _ (c .if2 .taken), test .before .king-at .ensures)
 
 returns-3 : tie.Need-returns-3
 unfolding namedState
 returns-3 c = λ h e. rw (stops (c .before .before) ∙ c .before .if1 .left, ne-eqb _ _ (c .if2 .left))
 
 pub named-spec : {M : Type 1} → statement M
-named-spec = tie.close (tie.spec decides-requires king-at-requires returns returns-2 returns-3)
+named-spec = tie.close (tie.spec king-at-requires decides-requires returns returns-2 returns-3)
