@@ -1,10 +1,10 @@
 -- Words for calls.rt: what a call has passed, and what it sends. They are no part of the rules: the laws tie them to the rules' words.
---     earlyRefusal s b n       0, or the number of the first of the tests 1 to 5 that fails
+--     earlyTests s b n         the tests 1 to 5; earlyRefusal s b n, 0, or the number of the first of them that fails
 --     Checked s b n            what a tray has passed before its senders are looked at: tests 1 to 5
 --     Sends v given r left     r is the length of the frame that is sent with v, and it stands in front of what stood in the buffer
 --     LastTest                 what is promised where only test 8 is left, and those heard stay as they are
 use Prim.Native.Nat.{ℕ, _<_, _≤_}
-use mathlib.Core.Bool.{true, cond}
+use mathlib.Core.Bool.{Bool, true, cond}
 use mathlib.Core.List.{List, [], _∷_, _++_}
 use mathlib.Core.Path.{_≡_}
 use lib.Dec.{leb, ltb, eqb}
@@ -23,15 +23,17 @@ use Rattle.controller.specs.declared.state.State.{State}
 use Rattle.controller.specs.declared.state.Worked.{Worked}
 use Rattle.controller.specs.Work.Received.{Ready}
 
-unfoldable pub earlyRefusal : State → List ℕ → ℕ → ℕ
-earlyRefusal s b n =
-    firstFailed
-    ((sound s, 1)
+abbrev pub earlyTests : State → List ℕ → ℕ → List (Bool × ℕ)
+earlyTests s b n =
+    (sound s, 1)
     ∷ (ltb (s .round) lastRound, 2)
     ∷ (leb maxFrame n, 3)
     ∷ (wellFormed b, 4)
     ∷ (eqb (roundOf b) (s .round), 5)
-    ∷ [])
+    ∷ []
+
+unfoldable pub earlyRefusal : State → List ℕ → ℕ → ℕ
+earlyRefusal s b n = firstFailed (earlyTests s b n)
 
 pub record Checked (s : State) (b : List ℕ) (n : ℕ) : Type 0 where
   pub sound : sound s ≡ true

@@ -5,17 +5,16 @@
 --     laidOut-takenApart     a sound image is what the state in it is laid out to
 --     laidOut-sound          the image of a sound state is sound
 --     laidOut-bytes          and it is made of bytes, where the state's numbers are of 32 bits
-use Prim.Native.Nat.{ℕ, zero, suc, _+_, _*_, _-_, _/_, _%_, _≤_, _<_}
-use mathlib.Core.Bool.{Bool, true, false, cond, and-eq-true-iff}
+use Prim.Native.Nat.{ℕ, zero, suc, _+_, _*_, _-_, _≤_, _<_}
+use mathlib.Core.Bool.{true, and-eq-true-iff}
 use mathlib.Core.List.{List, [], _∷_, _++_, append-assoc}
 use mathlib.Core.Path.{_≡_, refl, sym, ap, _∙_}
 use native.Mathlib.Nat.{zero-add, add-zero, suc-add, add-assoc}
 use native.Mathlib.Omega.{arith}
-use borrow.Author.Tests.{leb-true, eqb-true, eq-eqb}
-use lib.Dec.{leb, eqb}
+use borrow.Author.Tests.{eqb-true, eq-eqb}
+use lib.Dec.{eqb}
 use lib.ListN.{length, getD, take, drop, replicate, length-append, length-drop, length-replicate}
 use lib.Seq.{slice, take-all, drop-at, getD-take, getD-drop}
-use Rattle.wire.specs.Frame.{bitFits}
 use Rattle.wire.specs.Limits.{maxNumbers, numberWidth}
 use Rattle.wire.specs.Numbers.{listed}
 use Rattle.wire.specs.Words.{wordAt, wordBytes, wordsAt, wordsBytes, Below}

@@ -1,7 +1,6 @@
 -- `controller::bit::spoken` meets its contract: the bit, strong and said are those of the rules, since the two counts are; an own bit that is not 0 is 1.
 use Prim.Native.Nat.{ℕ, _≤_}
 use mathlib.Core.Bool.{cond, _&&_}
-use mathlib.Core.List.{List}
 use mathlib.Core.Logic.{_≢_}
 use mathlib.Core.Path.{_≡_, _∙_}
 use native.Mathlib.Omega.{arith}

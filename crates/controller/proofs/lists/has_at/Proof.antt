@@ -1,6 +1,5 @@
 -- `controller::lists::has_at` meets its contract: a number is in a rising list exactly if it stands at its place.
 use Prim.Native.Nat.{_≤_, _<_}
-use mathlib.Core.Bool.{false}
 use mathlib.Core.Path.{_≡_, sym, _∙_}
 use native.Mathlib.Omega.{arith}
 use borrow.Author.Needs.{needs}

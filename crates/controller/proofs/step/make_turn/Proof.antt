@@ -1,7 +1,6 @@
 -- `controller::step::make_turn` meets its contract: the turn's bit, strong and said, and all other fields as they were, are the state of `makeTurn`.
 use native.Mathlib.Omega.{arith}
 use denote.Ref.{now}
-use Rattle.wire.specs.Tray.{entries}
 use Rattle.controller.specs.Laws.Work.Ready.{ready-size}
 use Rattle.controller.specs.Laws.Rules.{kind-before}
 use Rattle.controller.specs.Laws.State.{sound-gives}

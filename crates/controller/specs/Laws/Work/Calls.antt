@@ -6,13 +6,11 @@ use mathlib.Core.Logic.{_≢_}
 use mathlib.Core.Path.{_≡_, refl}
 use native.Mathlib.Omega.{arith}
 use borrow.Author.Tests.{ltb-true, leb-true, eqb-true}
-use lib.Dec.{leb, ltb, eqb}
-use Rattle.wire.specs.Limits.{maxFrame, lastRound}
 use Rattle.wire.specs.Refusal.{firstFailed}
-use Rattle.wire.specs.Tray.{wellFormed, roundOf, entries}
-use Rattle.controller.specs.State.{view, sound}
+use Rattle.wire.specs.Tray.{entries}
+use Rattle.controller.specs.State.{view}
 use Rattle.controller.specs.Refusals.{sendersFit, heardFit, listsFit, trayRefusal}
-use Rattle.controller.specs.Work.Calls.{earlyRefusal, Checked}
+use Rattle.controller.specs.Work.Calls.{earlyTests, earlyRefusal, Checked}
 use Rattle.controller.specs.Laws.Refusals.{test-passed}
 use Rattle.controller.specs.declared.state.State.{State}
 
@@ -23,18 +21,15 @@ test-first ((true, k) ∷ ts) us fails = test-first ts us fails
 test-first ((false, k) ∷ ts) us fails = refl
 
 module _ (s : State) (b : List ℕ) (n : ℕ) where
-  abbrev tests : List (Bool × ℕ)
-  tests = (sound s, 1) ∷ (ltb (s .round) lastRound, 2) ∷ (leb maxFrame n, 3) ∷ (wellFormed b, 4) ∷ (eqb (roundOf b) (s .round), 5) ∷ []
-
   pub early-refused : earlyRefusal s b n ≢ 0 → trayRefusal s b n ≡ earlyRefusal s b n
   unfolding earlyRefusal trayRefusal
   early-refused =
-      test-first tests ((sendersFit (view s) (entries b), 6) ∷ (heardFit (view s) (entries b), 7) ∷ (listsFit (view s) (entries b), 8) ∷ [])
+      test-first (earlyTests s b n) ((sendersFit (view s) (entries b), 6) ∷ (heardFit (view s) (entries b), 7) ∷ (listsFit (view s) (entries b), 8) ∷ [])
 
   pub early-passed : earlyRefusal s b n ≡ 0 → Checked s b n
   unfolding earlyRefusal
   early-passed e =
-      let passed = test-passed tests (omega arith) e in
+      let passed = test-passed (earlyTests s b n) (omega arith) e in
       record {
         sound = passed 0;
         early = ltb-true _ _ (passed 1);

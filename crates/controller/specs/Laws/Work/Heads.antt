@@ -5,7 +5,7 @@
 --     Passing ..        so does each list, and those that have x and stand at x + 1 are counted
 --     Climbing ..       so it is, and k is the node up to which the tree is in order again; its key is above x
 use Prim.Native.Nat.{ℕ, _+_, _-_, _*_, _/_, _%_, _≤_, _<_}
-use mathlib.Core.Bool.{Bool, true, false, cond}
+use mathlib.Core.Bool.{true, false, cond}
 use mathlib.Core.List.{List, [], _∷_}
 use mathlib.Core.Logic.{_⊎_, inl, inr, _≢_}
 use mathlib.Core.Path.{_≡_, refl, sym, ap, _∙_}

@@ -16,7 +16,7 @@ use Rattle.wire.specs.declared.frame.Numbers.{Numbers}
 use Rattle.controller.specs.Work.Lists.{inPlaces}
 use Rattle.controller.specs.Lists.{In}
 use Rattle.controller.specs.State.{View, view, storedState, sound, undecided, bitPart, stateFrom}
-use Rattle.controller.specs.Received.{Received, senders, receive, says, lists}
+use Rattle.controller.specs.Received.{Received, senders, says, lists}
 use Rattle.controller.specs.Rotation.{roster, decides, kingAfter}
 use Rattle.controller.specs.Bit.{phase, decisionAfter, valueTwoThirds, proposal}
 use Rattle.controller.specs.Rules.{makeRoster, makePropose, makeTurn, next}

@@ -1,6 +1,6 @@
 -- Laws of the walk: what it settles, from one number to the next, and when all lists have ended.
-use Prim.Native.Nat.{ℕ, zero, suc, _+_, _/_, _≤_, _<_}
-use mathlib.Core.Bool.{Bool, true, false, cond, true≢false}
+use Prim.Native.Nat.{ℕ, suc, _+_, _/_, _≤_, _<_}
+use mathlib.Core.Bool.{true, false, true≢false}
 use mathlib.Core.List.{List, [], _∷_, List·Memᴰ·not-nil, List·Memᴰ·cases-cons}
 use mathlib.Core.Logic.{inl, inr}
 use mathlib.Core.Path.{_≡_, refl, sym, ap, _∙_}
@@ -9,16 +9,15 @@ use native.Mathlib.Omega.{arith}
 use borrow.Author.Tests.{lt-ltb, le-ltb}
 use lib.Dec.{ltb}
 use lib.ListN.{getD, take}
-use Rattle.wire.specs.Limits.{maxNumbers}
 use Rattle.wire.specs.Numbers.{stored}
-use Rattle.controller.specs.Lists.{In, mem, Rising}
+use Rattle.controller.specs.Lists.{In, Rising}
 use Rattle.controller.specs.State.{soundList}
 use Rattle.controller.specs.Work.Lists.{below}
 use Rattle.controller.specs.Thirds.{third, twoThirds}
 use Rattle.controller.specs.Work.Opened.{endMark, openList, Opens, weighed}
 use Rattle.controller.specs.Work.Heads.{slots, Standing, Ordered, Roomy}
 use Rattle.controller.specs.Work.Tally.{Settles, Sorts}
-use Rattle.controller.specs.Laws.Lists.{out-mem, count-none}
+use Rattle.controller.specs.Laws.Lists.{count-none}
 use Rattle.controller.specs.Laws.Work.Settle.{holds-other, below-later}
 use Rattle.controller.specs.Laws.State.{sound-list-test}
 use Rattle.controller.specs.Laws.Work.Heads.{stands-head}

@@ -7,7 +7,7 @@ use native.Mathlib.Omega.{arith}
 use lib.ListN.{getD}
 use Rattle.wire.specs.Limits.{maxNumbers}
 use Rattle.controller.specs.Lists.{In, mem}
-use Rattle.controller.specs.Work.Opened.{total, endMark, openList, Opens, weighed}
+use Rattle.controller.specs.Work.Opened.{endMark, openList, Opens, weighed}
 use Rattle.controller.specs.Laws.Lists.{out-mem}
 use Rattle.controller.specs.Laws.Work.Total.{total-none, total-most}
 
