@@ -72,7 +72,7 @@ module _ (s : State) (es : List Entry) (n : Numbers) (h : sound s ≡ true) (e :
 -- where all senders are heard the state is ready for the tray, and of the tests only the last is left
 module _ {s : State} {b f : List ℕ} {n : ℕ} {r : Bool} (k : Checked s b n) (found : Finds (s .own) b (listed (s .heard)) r f) (all : r ≡ true) where
   pub known-ready : Ready s b f
-  known-ready = ready-found s b f (k .sound) (k .packed) (λ x i. found .known all x i .0) (found .firsts all)
+  known-ready = ready-found s b f (k .sound) (k .packed) (λ x i. found .known all x i .0) (found .notes all)
 
   pub known-promised : {v : View} {before after : List ℕ} {a : Answer}
       → Promise (cond (listsFit (view s) (entries b)) 0 8) v s before a after
@@ -116,7 +116,7 @@ module _ {s : State} {b : List ℕ} {n : ℕ} (k : Checked s b n) (sent : sender
       (rw same at (heard-in (view s) (entries b) .1 (inl i)), λ q. mem-out (senders (entries b)) (not-true _ own) (Memᴰ·cast (sym q) i))
 
   pub hearing-ready : (q : Bool) {f : List ℕ} → Finds (s .own) b (listed all) q f → Ready (heardState s all) b f
-  hearing-ready true {f} found = ready-found (heardState s all) b f hearing-sound (k .packed) (λ x i. known x i .0) (found .firsts refl)
+  hearing-ready true {f} found = ready-found (heardState s all) b f hearing-sound (k .packed) (λ x i. known x i .0) (found .notes refl)
   hearing-ready false found = absurd (found .unknown refl known)
 
   pub hearing-passed : trayRefusal s b n ≡ cond (listsFit (view s) (entries b)) 0 8

@@ -25,10 +25,10 @@ fn king_opinion(
     fields: Fields,
     heard: &[u32; MAX_NUMBERS],
     tray: &[u8],
-    firsts: &[usize; MAX_NUMBERS],
+    notes: &[u32; MAX_NUMBERS],
 ) -> u8
     requires { ⌜ soundList (inPlaces (fields .heard) (now heard)) ≡ true ⌝ }
-    ensures { λ r. ⌜ WhereReady fields heard tray firsts (λ s b. kindOf (s .round) ≡ 5 → r ≡ kingOpinion (view s) (receivedBy s b)) ⌝ }
+    ensures { λ r. ⌜ WhereReady fields heard tray notes (λ s b. kindOf (s .round) ≡ 5 → r ≡ kingOpinion (view s) (receivedBy s b)) ⌝ }
 {
     let king = fields.king;
     let place = place_in(heard, fields.heard, king);
@@ -39,7 +39,7 @@ fn king_opinion(
             fields.said,
             tray,
             king,
-            firsts[place],
+            notes[place],
         );
         if bit <= 1 { bit } else { NO_BIT }
     } else {
@@ -52,10 +52,10 @@ pub(crate) fn bit_taken(
     fields: Fields,
     heard: &[u32; MAX_NUMBERS],
     tray: &[u8],
-    firsts: &[usize; MAX_NUMBERS],
+    notes: &[u32; MAX_NUMBERS],
 ) -> u8
     requires { ⌜ soundList (inPlaces (fields .heard) (now heard)) ≡ true ⌝ }
-    ensures { λ r. ⌜ WhereReady fields heard tray firsts (λ s b. kindOf (s .round + 1) ≡ 3 → r ≡ bitTaken (view s) (receivedBy s b)) ⌝ }
+    ensures { λ r. ⌜ WhereReady fields heard tray notes (λ s b. kindOf (s .round + 1) ≡ 3 → r ≡ bitTaken (view s) (receivedBy s b)) ⌝ }
 {
     let bit = fields.bit;
     if fields.round < 3 {
@@ -67,7 +67,7 @@ pub(crate) fn bit_taken(
     if fields.strong != 0 {
         return bit;
     }
-    let opinion = king_opinion(fields, heard, tray, firsts);
+    let opinion = king_opinion(fields, heard, tray, notes);
     if opinion <= 1 { opinion } else { bit }
 }
 

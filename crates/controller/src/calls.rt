@@ -9,7 +9,6 @@ ghost use Rattle.controller.specs.State.{zeroState, storedState, startVi
 ghost use Rattle.controller.specs.Calls.{StartPromise, TrayPromise, WorkPromise};
 ghost use Rattle.controller.specs.Work.Calls.{earlyRefusal, Checked, LastTest, HeardTray, SendsFields};
 use crate::lists::no_numbers;
-use crate::received::first_entries;
 use crate::received::hear;
 use crate::received::senders_fit;
 use crate::received::sent_count;
@@ -20,6 +19,7 @@ use crate::state::Fields;
 use crate::state::State;
 use crate::state::Worked;
 use crate::step::step;
+use wire::found::NO_FRAME;
 use wire::frame::Frame;
 use wire::frame::kind_of;
 use wire::frame::said_by;
@@ -27,7 +27,6 @@ use wire::limits::LAST_ROUND;
 use wire::limits::MAX_FRAME;
 use wire::limits::MAX_NUMBERS;
 use wire::limits::NO_BIT;
-use wire::tray::entry_count;
 use wire::tray::tray_round;
 use wire::tray::well_formed;
 use wire::write::write_frame;
@@ -135,13 +134,13 @@ fn work_heard(
     candidates: &mut [u32; MAX_NUMBERS],
     echoes: &mut [u32; MAX_NUMBERS],
     tray: &[u8],
-    firsts: &[usize; MAX_NUMBERS],
+    notes: &[u32; MAX_NUMBERS],
     out: &mut [u8],
 ) -> Worked
-    requires { ⌜ HeardTray (stateGiven fields heard candidates echoes) (now tray) (now firsts) (length (now out)) ⌝ }
+    requires { ⌜ HeardTray (stateGiven fields heard candidates echoes) (now tray) (now notes) (length (now out)) ⌝ }
     ensures { λ r. ⌜ LastTest fields heard candidates echoes tray out r ⌝ }
 {
-    let made = step(fields, heard, candidates, echoes, tray, firsts);
+    let made = step(fields, heard, candidates, echoes, tray, notes);
     let fits = made.fits;
     if fits {
         let next = made.fields;
@@ -153,41 +152,6 @@ fn work_heard(
         }
     } else {
         refused_in_place(8, fields)
-    }
-}
-
-// Tests 6 and 7, where a sender is new or the own number.
-fn work_new_senders(
-    fields: Fields,
-    heard: &mut [u32; MAX_NUMBERS],
-    candidates: &mut [u32; MAX_NUMBERS],
-    echoes: &mut [u32; MAX_NUMBERS],
-    tray: &[u8],
-    out: &mut [u8],
-) -> Worked
-    requires { ⌜ Checked (stateGiven fields heard candidates echoes) (now tray) (length (now out)) ⌝ }
-    ensures { λ r. ⌜ WorkPromise fields heard candidates echoes tray out r ⌝ }
-{
-    if senders_fit(tray, fields.own) {
-        let mut after = *heard;
-        let len = hear(tray, &mut after, fields.heard);
-        if len <= MAX_NUMBERS {
-            let mut more = fields;
-            more.heard = len;
-            let mut firsts = [entry_count(tray); MAX_NUMBERS];
-            first_entries(tray, fields.own, &after, len, &mut firsts);
-            let worked = work_heard(more, &after, candidates, echoes, tray, &firsts, out);
-            if worked.refusal == 0 {
-                *heard = after;
-                worked
-            } else {
-                refused_in_place(8, fields)
-            }
-        } else {
-            refused_in_place(7, fields)
-        }
-    } else {
-        refused_in_place(6, fields)
     }
 }
 
@@ -203,11 +167,25 @@ fn work_checked(
     requires { ⌜ Checked (stateGiven fields heard candidates echoes) (now tray) (length (now out)) ⌝ }
     ensures { λ r. ⌜ WorkPromise fields heard candidates echoes tray out r ⌝ }
 {
-    let mut firsts = [entry_count(tray); MAX_NUMBERS];
-    if first_entries(tray, fields.own, heard, fields.heard, &mut firsts) {
-        work_heard(fields, heard, candidates, echoes, tray, &firsts, out)
+    let mut after = *heard;
+    let mut notes = [NO_FRAME; MAX_NUMBERS];
+    let len = hear(tray, fields.own, &mut after, fields.heard, &mut notes);
+    if len <= MAX_NUMBERS {
+        let mut more = fields;
+        more.heard = len;
+        let worked = work_heard(more, &after, candidates, echoes, tray, &notes, out);
+        if worked.refusal == 0 {
+            *heard = after;
+            worked
+        } else {
+            refused_in_place(8, fields)
+        }
     } else {
-        work_new_senders(fields, heard, candidates, echoes, tray, out)
+        if senders_fit(tray, fields.own) {
+            refused_in_place(7, fields)
+        } else {
+            refused_in_place(6, fields)
+        }
     }
 }
 

@@ -16,14 +16,14 @@ ghost use Rattle.controller.specs.Work.Opened.{listUnder, endMark, listF
 use crate::alike::alike;
 use crate::received::sent_count;
 use crate::state::Fields;
+use wire::found::Found;
+use wire::found::found_by;
 use wire::limits::FRAME_HEADER;
 use wire::limits::MAX_NUMBERS;
 use wire::limits::NUMBER_WIDTH;
 use wire::read::number_count;
 use wire::read::read_number;
 use wire::read::read_refusal;
-use wire::tray::Found;
-use wire::tray::entry_place;
 use wire::tray::part_of;
 
 // Above every number: what stands behind a list's last one.
@@ -49,17 +49,18 @@ fn list_count(bytes: &[u8], round: u32) -> usize
 }
 
 // The list of an entry's frame; an empty one where the frame is void or there is no such entry.
-fn list_of(tray: &[u8], entry: usize, round: u32) -> Span
+fn list_of(tray: &[u8], note: u32, round: u32) -> Span
     ensures { λ r. ⌜ SpanOf (before tray) (listIn (readIn round (bytesAt (before tray) (place (before tray) entry))))
         (r .start) (r .count) ⌝ }
 {
-    let found = entry_place(tray, entry);
-    match found {
-        Found::At(offset, len) => Span {
+    let found = found_by(note);
+    if let Found::At(offset, len) = found {
+        Span {
             start: offset + FRAME_HEADER,
             count: list_count(part_of(tray, offset, len), round),
-        },
-        Found::Nothing => Span { start: 0, count: 0 },
+        }
+    } else {
+        Span { start: 0, count: 0 }
     }
 }
 
@@ -135,7 +136,7 @@ fn open_received(
     own: &[u32],
     tray: &[u8],
     x: u32,
-    entry: usize,
+    note: u32,
     weight: usize,
     starts: &mut [usize],
     counts: &mut [usize],
@@ -149,7 +150,7 @@ fn open_received(
         sent[0] += weight;
         return len;
     }
-    let list = list_of(tray, entry, fields.round);
+    let list = list_of(tray, note, fields.round);
     open_list(own, tray, list, weight, starts, counts, sent, len)
 }
 
@@ -160,12 +161,12 @@ pub(crate) fn open_lists(
     heard: &[u32; MAX_NUMBERS],
     own: &[u32],
     tray: &[u8],
-    firsts: &[usize; MAX_NUMBERS],
+    notes: &[u32; MAX_NUMBERS],
     starts: &mut [usize],
     counts: &mut [usize],
     sent: &mut [usize],
 ) -> usize
-    requires { ⌜ Openable fields (now heard) (now own) (now tray) (now firsts) (now starts) (now counts) (now sent) ⌝ }
+    requires { ⌜ Openable fields (now heard) (now own) (now tray) (now notes) (now starts) (now counts) (now sent) ⌝ }
     ensures { λ r. ⌜ OpensAll (stateOf fields (before heard) [] (before own)) (before tray) (after starts)
         (after counts) (after sent) r ⌝ }
 {
@@ -173,13 +174,13 @@ pub(crate) fn open_lists(
     let mut len = 1;
     let mut j = 0;
     while j < fields.heard {
-        let weight = alike(fields.own, tray, heard, fields.heard, firsts, j);
+        let weight = alike(fields.own, tray, heard, fields.heard, notes, j);
         len = open_received(
             fields,
             own,
             tray,
             heard[j],
-            firsts[j],
+            notes[j],
             weight,
             starts,
             counts,

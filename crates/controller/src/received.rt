@@ -17,13 +17,15 @@ use crate::lists::has_at;
 use crate::lists::insert_at;
 use crate::lists::place_near;
 use crate::state::Fields;
+use wire::found::Found;
+use wire::found::found_by;
+use wire::found::note_with;
 use wire::frame::Read;
 use wire::frame::bit_said;
 use wire::frame::kind_of;
 use wire::frame::max_count;
 use wire::limits::MAX_NUMBERS;
 use wire::read::read_frame;
-use wire::tray::Found;
 use wire::tray::entry_count;
 use wire::tray::entry_place;
 use wire::tray::entry_sender;
@@ -49,62 +51,40 @@ pub(crate) fn senders_fit(tray: &[u8], own: u32) -> bool
     true
 }
 
-// Puts the directory's senders into heard, and returns its length; 65 where it would have more than 64 numbers.
-pub(crate) fn hear(tray: &[u8], heard: &mut [u32; MAX_NUMBERS], len: usize) -> usize
-    requires { ⌜ (wellFormed (now tray) ≡ true) × (soundList (inPlaces len (now heard)) ≡ true) × (¬ In 0 (senders (entries (now tray)))) ⌝ }
-    ensures { λ r. ⌜ Hears (insertAll (senders (entries (before tray))) (listed (inPlaces len (before heard)))) r (after heard) ⌝ }
-{
-    let count = entry_count(tray);
-    let mut n = len;
-    let mut next = 0;
-    let mut i = 0;
-    while i < count {
-        let x = entry_sender(tray, i);
-        let place = place_near(heard, n, x, next);
-        next = place + 1;
-        i += 1;
-        if has_at(heard, n, place, x) {
-            continue;
-        }
-        if n < MAX_NUMBERS {
-            insert_at(heard, n, place, x);
-            n += 1;
-        } else {
-            return MAX_NUMBERS + 1;
-        }
-    }
-    n
-}
-
-// Finds the first entry of each number heard, if every sender is heard and none is the own number: most trays hold nobody new. It goes through the
-// directory from its end, so that a sender's first entry is the one that stays. `firsts` comes with the entry count at each place, for no entry.
-pub(crate) fn first_entries(
+pub(crate) fn hear(
     tray: &[u8],
     own: u32,
-    heard: &[u32; MAX_NUMBERS],
+    heard: &mut [u32; MAX_NUMBERS],
     len: usize,
-    firsts: &mut [usize; MAX_NUMBERS],
-) -> bool
-    requires { ⌜ (wellFormed (now tray) ≡ true) × (soundList (inPlaces len (now heard)) ≡ true) × NoEntries (now tray) (now firsts) ⌝ }
-    ensures { λ r. ⌜ Finds own (before tray) (listed (inPlaces len (before heard))) r (after firsts) ⌝ }
-{
+    notes: &mut [u32; MAX_NUMBERS],
+) -> usize {
+    let mut n = len;
     let mut next = 0;
     let mut i = entry_count(tray);
     while 0 < i {
         i -= 1;
         let x = entry_sender(tray, i);
         if x == own {
-            return false;
+            return MAX_NUMBERS + 1;
         }
-        let j = place_near(heard, len, x, next);
-        if has_at(heard, len, j, x) {
-            firsts[j] = i;
+        let j = place_near(heard, n, x, next);
+        if has_at(heard, n, j, x) {
+            notes[j] = note_with(tray, notes[j], entry_place(tray, i));
         } else {
-            return false;
+            if x == 0 {
+                return MAX_NUMBERS + 1;
+            }
+            if n < MAX_NUMBERS {
+                insert_at(heard, n, j, x);
+                insert_at(notes, n, j, entry_place(tray, i));
+                n += 1;
+            } else {
+                return MAX_NUMBERS + 1;
+            }
         }
         next = (j + MAX_NUMBERS - 1) % MAX_NUMBERS;
     }
-    true
+    n
 }
 
 // In the place of a bit, for bytes that are void and for an entry that is not there. No frame says it.
@@ -124,24 +104,24 @@ pub(crate) fn frame_bit(bytes: &[u8], round: u32) -> u8
 }
 
 // The bit of an entry's frame, read in a round.
-fn entry_bit(tray: &[u8], entry: usize, round: u32) -> u8
+fn entry_bit(tray: &[u8], note: u32, round: u32) -> u8
     ensures { λ r. ⌜ r ≡ bitIn (readIn round (bytesAt (before tray) (place (before tray) entry))) ⌝ }
 {
-    let found = entry_place(tray, entry);
-    match found {
-        Found::At(offset, len) => frame_bit(part_of(tray, offset, len), round),
-        Found::Nothing => NOTHING_SAID,
-    }
+    let found = found_by(note);
+    let Found::At(offset, len) = found else {
+        return NOTHING_SAID;
+    };
+    frame_bit(part_of(tray, offset, len), round)
 }
 
 // The bit of the frame received under the number `x`, if `entry` is its first entry; 3 where it is void.
-pub(crate) fn received_bit(own: u32, round: u32, said: u8, tray: &[u8], x: u32, entry: usize) -> u8
+pub(crate) fn received_bit(own: u32, round: u32, said: u8, tray: &[u8], x: u32, note: u32) -> u8
     ensures { λ r. ⌜ r ≡ bitUnder own round said (before tray) x entry ⌝ }
 {
     if x == own {
         said
     } else {
-        entry_bit(tray, entry, round)
+        entry_bit(tray, note, round)
     }
 }
 
@@ -174,10 +154,10 @@ pub(crate) fn count_bits(
     fields: Fields,
     heard: &[u32; MAX_NUMBERS],
     tray: &[u8],
-    firsts: &[usize; MAX_NUMBERS],
+    notes: &[u32; MAX_NUMBERS],
 ) -> Counts
     requires { ⌜ fields .heard ≤ maxNumbers ⌝ }
-    ensures { λ r. ⌜ CountsFew (fields .heard) r × WhereReady fields heard tray firsts (λ s b. CountsBits (kindOf (s .round)) (receivedBy s b) r) ⌝ }
+    ensures { λ r. ⌜ CountsFew (fields .heard) r × WhereReady fields heard tray notes (λ s b. CountsBits (kindOf (s .round)) (receivedBy s b) r) ⌝ }
 {
     let mut zeros = 0;
     let mut ones = 0;
@@ -189,7 +169,7 @@ pub(crate) fn count_bits(
             fields.said,
             tray,
             heard[j],
-            firsts[j],
+            notes[j],
         );
         zeros += one_if(bit, 0);
         ones += one_if(bit, 1);

@@ -22,17 +22,17 @@ pub(crate) fn roster(
     fields: Fields,
     heard: &[u32; MAX_NUMBERS],
     tray: &[u8],
-    firsts: &[usize; MAX_NUMBERS],
+    notes: &[u32; MAX_NUMBERS],
     list: &mut [u32; MAX_NUMBERS],
 ) -> usize
     requires { ⌜ (fields .heard ≤ maxNumbers) × (now list ≡ (stored []) .at) ⌝ }
-    ensures { λ r. ⌜ WhereReady fields heard tray firsts (λ s b. kindOf (s .round) ≡ 1 → inPlaces r (after list) ≡ stored (roster (receivedBy s b))) ⌝ }
+    ensures { λ r. ⌜ WhereReady fields heard tray notes (λ s b. kindOf (s .round) ≡ 1 → inPlaces r (after list) ≡ stored (roster (receivedBy s b))) ⌝ }
 {
     let mut k = 0;
     let mut j = 0;
     while j < fields.heard {
         let x = heard[j];
-        let bit = received_bit(fields.own, fields.round, fields.said, tray, x, firsts[j]);
+        let bit = received_bit(fields.own, fields.round, fields.said, tray, x, notes[j]);
         if bit == NO_BIT {
             list[k] = x;
             k += 1;

@@ -56,14 +56,14 @@ fn make_roster(
     fields: Fields,
     heard: &[u32; MAX_NUMBERS],
     tray: &[u8],
-    firsts: &[usize; MAX_NUMBERS],
+    notes: &[u32; MAX_NUMBERS],
     echoes: &mut [u32; MAX_NUMBERS],
 ) -> Fields
     requires { ⌜ (fields .heard ≤ maxNumbers) × (fields .round < lastRound) × (now echoes ≡ (stored []) .at) ⌝ }
-    ensures { λ r. ⌜ WhereReady fields heard tray firsts (λ s b. kindOf (s .round + 1) ≡ 2 → MakesEchoes s b r (after echoes)) ⌝ }
+    ensures { λ r. ⌜ WhereReady fields heard tray notes (λ s b. kindOf (s .round + 1) ≡ 2 → MakesEchoes s b r (after echoes)) ⌝ }
 {
     let mut next = fields;
-    next.echoes = roster(fields, heard, tray, firsts, echoes);
+    next.echoes = roster(fields, heard, tray, notes, echoes);
     next.round = fields.round + 1;
     next
 }
@@ -72,13 +72,13 @@ fn make_propose(
     fields: Fields,
     heard: &[u32; MAX_NUMBERS],
     tray: &[u8],
-    firsts: &[usize; MAX_NUMBERS],
+    notes: &[u32; MAX_NUMBERS],
 ) -> Fields
     requires { ⌜ (fields .heard ≤ maxNumbers) × (fields .round < lastRound) ⌝ }
-    ensures { λ r. ⌜ WhereReady fields heard tray firsts (λ s b. kindOf (s .round + 1) ≡ 4 → MakesFields s b r) ⌝ }
+    ensures { λ r. ⌜ WhereReady fields heard tray notes (λ s b. kindOf (s .round + 1) ≡ 4 → MakesFields s b r) ⌝ }
 {
     let mut next = fields;
-    let counts = count_bits(fields, heard, tray, firsts);
+    let counts = count_bits(fields, heard, tray, notes);
     next.said = proposal(counts, fields.heard);
     next.round = fields.round + 1;
     next
@@ -88,13 +88,13 @@ fn make_turn(
     fields: Fields,
     heard: &[u32; MAX_NUMBERS],
     tray: &[u8],
-    firsts: &[usize; MAX_NUMBERS],
+    notes: &[u32; MAX_NUMBERS],
 ) -> Fields
     requires { ⌜ (fields .heard ≤ maxNumbers) × (fields .round < lastRound) × (fields .bit ≤ 1) ⌝ }
-    ensures { λ r. ⌜ WhereReady fields heard tray firsts (λ s b. kindOf (s .round + 1) ≡ 5 → MakesFields s b r) ⌝ }
+    ensures { λ r. ⌜ WhereReady fields heard tray notes (λ s b. kindOf (s .round + 1) ≡ 5 → MakesFields s b r) ⌝ }
 {
     let mut next = fields;
-    let counts = count_bits(fields, heard, tray, firsts);
+    let counts = count_bits(fields, heard, tray, notes);
     let turn = spoken(fields, counts, fields.heard);
     next.bit = turn.bit;
     next.strong = turn.strong;
@@ -140,13 +140,13 @@ fn make_value(
     candidates: &mut [u32; MAX_NUMBERS],
     echoes: &mut [u32; MAX_NUMBERS],
     tray: &[u8],
-    firsts: &[usize; MAX_NUMBERS],
+    notes: &[u32; MAX_NUMBERS],
 ) -> Made
-    requires { ⌜ Due 3 (stateGiven fields heard candidates echoes) (now tray) (now firsts) ⌝ }
+    requires { ⌜ Due 3 (stateGiven fields heard candidates echoes) (now tray) (now notes) ⌝ }
     ensures { λ r. ⌜ MakesParts fields heard candidates echoes tray r ⌝ }
 {
-    let bit = bit_taken(fields, heard, tray, firsts);
-    let lists = grow(fields, heard, candidates, echoes, tray, firsts);
+    let bit = bit_taken(fields, heard, tray, notes);
+    let lists = grow(fields, heard, candidates, echoes, tray, notes);
     grown(fields, lists, bit, candidates)
 }
 
@@ -157,28 +157,28 @@ pub(crate) fn step(
     candidates: &mut [u32; MAX_NUMBERS],
     echoes: &mut [u32; MAX_NUMBERS],
     tray: &[u8],
-    firsts: &[usize; MAX_NUMBERS],
+    notes: &[u32; MAX_NUMBERS],
 ) -> Made
-    requires { ⌜ Ready (stateGiven fields heard candidates echoes) (now tray) (now firsts) × (fields .round < lastRound) ⌝ }
+    requires { ⌜ Ready (stateGiven fields heard candidates echoes) (now tray) (now notes) × (fields .round < lastRound) ⌝ }
     ensures { λ r. ⌜ MakesParts fields heard candidates echoes tray r ⌝ }
 {
     let kind = kind_of(fields.round + 1);
     if kind == ROSTER {
-        let made = make_roster(fields, heard, tray, firsts, echoes);
+        let made = make_roster(fields, heard, tray, notes, echoes);
         Made {
             fits: true,
             fields: made,
         }
     } else if kind == VALUE {
-        make_value(fields, heard, candidates, echoes, tray, firsts)
+        make_value(fields, heard, candidates, echoes, tray, notes)
     } else if kind == PROPOSE {
-        let made = make_propose(fields, heard, tray, firsts);
+        let made = make_propose(fields, heard, tray, notes);
         Made {
             fits: true,
             fields: made,
         }
     } else {
-        let made = make_turn(fields, heard, tray, firsts);
+        let made = make_turn(fields, heard, tray, notes);
         Made {
             fits: true,
             fields: made,

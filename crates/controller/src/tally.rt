@@ -172,11 +172,11 @@ fn tally(
     heard: &[u32; MAX_NUMBERS],
     own: &[u32],
     tray: &[u8],
-    firsts: &[usize; MAX_NUMBERS],
+    notes: &[u32; MAX_NUMBERS],
     echoed: &mut [u32; MAX_NUMBERS],
     candidates: &mut [u32; MAX_NUMBERS],
 ) -> Settled
-    requires { ⌜ Ready (stateGiven fields heard candidates own) (now tray) (now firsts) × (now echoed ≡ (stored []) .at) ⌝ }
+    requires { ⌜ Ready (stateGiven fields heard candidates own) (now tray) (now notes) × (now echoed ≡ (stored []) .at) ⌝ }
     ensures { λ r. ⌜ Tallies (stateBefore fields heard candidates own) (before tray) (after echoed) (after candidates) r ⌝ }
 {
     let mut starts = [0usize; MAX_LISTS];
@@ -187,7 +187,7 @@ fn tally(
         heard,
         own,
         tray,
-        firsts,
+        notes,
         &mut starts,
         &mut counts,
         &mut sent,
@@ -223,22 +223,14 @@ pub(crate) fn grow(
     candidates: &mut [u32; MAX_NUMBERS],
     echoes: &mut [u32; MAX_NUMBERS],
     tray: &[u8],
-    firsts: &[usize; MAX_NUMBERS],
+    notes: &[u32; MAX_NUMBERS],
 ) -> Lists
-    requires { ⌜ Ready (stateGiven fields heard candidates echoes) (now tray) (now firsts) ⌝ }
+    requires { ⌜ Ready (stateGiven fields heard candidates echoes) (now tray) (now notes) ⌝ }
     ensures { λ r. ⌜ GrowsLists (stateBefore fields heard candidates echoes) (before tray) r (after candidates) (after echoes) ⌝ }
 {
     let mut echoed = [0u32; MAX_NUMBERS];
     let mut joined = *candidates;
-    let settled = tally(
-        fields,
-        heard,
-        echoes,
-        tray,
-        firsts,
-        &mut echoed,
-        &mut joined,
-    );
+    let settled = tally(fields, heard, echoes, tray, notes, &mut echoed, &mut joined);
     if settled.fits {
         *echoes = echoed;
         *candidates = joined;

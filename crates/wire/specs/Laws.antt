@@ -1,6 +1,7 @@
 -- Laws about the definitions, for the proofs of this crate and of the crates above it.
 pub mod Causes
 pub mod Damage
+pub mod Found
 pub mod Frame
 pub mod Numbers
 pub mod Stores

@@ -2,24 +2,19 @@
 --     wellFormed s            the paper's "well packed"
 --     roundOf s               the round in which the tray's frames were sent
 --     entryCount s            how many entries the tray says it has
---     inDirectory s i         entry i is counted and lies whole in the tray's bytes
---     sender s i, place s i   the sender of entry i, and where its frame lies; 0 and nothing outside the directory
+--     inDirectory s i         entry i lies whole in the tray's bytes
+--     sender s i, place s i   the sender of entry i, and where its frame lies: offset and length in one word; 0 outside the directory
 --     part s o n              the n bytes from o on; no bytes where they run past the end
---     bytesAt s f             the bytes at a place that was found, if one was
 --     entries s               the tray as a list of entries: who sent, and the bytes
---     firstBytes x es         the bytes of x's first entry: "Only a sender's first entry counts"
 --     overwritten s i new     the tray s with the bytes new in the place of entry i's frame
 -- Offsets and lengths are added as numbers without a bound, so no sum wraps.
 use Prim.Native.Nat.{ℕ, zero, suc, _+_, _*_}
 use mathlib.Core.Bool.{Bool, cond, _&&_}
 use mathlib.Core.List.{List, [], _∷_, _++_}
-use mathlib.Core.Option.{Option, some, none}
-use lib.Dec.{leb, ltb, eqb}
+use lib.Dec.{leb, eqb}
 use lib.ListN.{length, take, drop}
 use Rattle.wire.specs.Limits.{trayHeader, entriesAt, zeroAt, entryWidth, offsetAt, lengthAt, maxTray, maxEntries}
 use Rattle.wire.specs.Words.{halfAt, wordAt}
-use Rattle.wire.specs.declared.tray.Found.{Found}
-use Rattle.wire.specs.declared.tray.Found.the-variants.{At, Nothing}
 
 -- ---- the header
 
@@ -42,13 +37,13 @@ abbrev pub lengthOf : List ℕ → ℕ → ℕ
 lengthOf s i = halfAt s (entryAt i + lengthAt)
 
 unfoldable pub inDirectory : List ℕ → ℕ → Bool
-inDirectory s i = ltb i (entryCount s) && leb (entryAt (i + 1)) (length s)
+inDirectory s i = leb (entryAt (i + 1)) (length s)
 
 unfoldable pub sender : List ℕ → ℕ → ℕ
 sender s i = cond (inDirectory s i) (wordAt s (entryAt i)) 0
 
-unfoldable pub place : List ℕ → ℕ → Found
-place s i = cond (inDirectory s i) (At (offsetOf s i) (lengthOf s i)) Nothing
+unfoldable pub place : List ℕ → ℕ → ℕ
+place s i = cond (inDirectory s i) (wordAt s (entryAt i + offsetAt)) 0
 
 -- ---- well packed
 
@@ -67,10 +62,6 @@ wellFormed s =
 unfoldable pub part : List ℕ → ℕ → ℕ → List ℕ
 part s o n = cond (leb (o + n) (length s)) (take n (drop o s)) []
 
-abbrev pub bytesAt : List ℕ → Found → Option (List ℕ)
-bytesAt s (At o n) = some (part s o n)
-bytesAt s Nothing = none
-
 pub record Entry : Type 0 where
   pub sender : ℕ
   pub bytes : List ℕ
@@ -81,10 +72,6 @@ entriesFrom s (suc n) i = record { sender = sender s i; bytes = part s (offsetOf
 
 unfoldable pub entries : List ℕ → List Entry
 entries s = entriesFrom s (entryCount s) 0
-
-abbrev pub firstBytes : ℕ → List Entry → Option (List ℕ)
-firstBytes x [] = none
-firstBytes x (e ∷ es) = cond (eqb (e .sender) x) (some (e .bytes)) (firstBytes x es)
 
 -- ---- a damaged tray
 

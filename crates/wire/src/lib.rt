@@ -1,4 +1,5 @@
 // Frames and trays: the bytes that controllers exchange, and what they say. Nothing here knows a controller's state.
+pub mod found;
 pub mod frame;
 pub mod limits;
 pub mod read;

@@ -17,12 +17,6 @@ use crate::limits::ZERO_AT;
 use crate::word::half;
 use crate::word::word;
 
-// Where an entry's frame lies in the tray.
-pub enum Found {
-    At(usize, usize),
-    Nothing,
-}
-
 // The round in which the tray's frames were sent; 0 for a tray without a header.
 pub fn tray_round(tray: &[u8]) -> u32
     ensures { λ r. ⌜ r ≡ roundOf (before tray) ⌝ }
@@ -45,11 +39,11 @@ pub fn entry_count(tray: &[u8]) -> usize
     }
 }
 
-// Whether entry `i` is counted and lies whole in the tray's bytes.
+// Whether entry `i` lies whole in the tray's bytes.
 fn in_directory(tray: &[u8], i: usize) -> bool
     ensures { λ r. ⌜ r ≡ inDirectory (before tray) i ⌝ }
 {
-    i < entry_count(tray) && TRAY_HEADER + ENTRY_WIDTH * (i + 1) <= tray.len()
+    TRAY_HEADER <= tray.len() && i < (tray.len() - TRAY_HEADER) / ENTRY_WIDTH
 }
 
 // The sender of entry `i`; 0 outside the directory.
@@ -63,15 +57,14 @@ pub fn entry_sender(tray: &[u8], i: usize) -> u32
     }
 }
 
-// Where the frame of entry `i` lies.
-pub fn entry_place(tray: &[u8], i: usize) -> Found
+// Where the frame of entry `i` lies, offset and length in one word; 0 outside the directory.
+pub fn entry_place(tray: &[u8], i: usize) -> u32
     ensures { λ r. ⌜ r ≡ place (before tray) i ⌝ }
 {
     if in_directory(tray, i) {
-        let entry = TRAY_HEADER + ENTRY_WIDTH * i;
-        Found::At(half(tray, entry + OFFSET_AT), half(tray, entry + LENGTH_AT))
+        word(tray, TRAY_HEADER + ENTRY_WIDTH * i + OFFSET_AT)
     } else {
-        Found::Nothing
+        0
     }
 }
 

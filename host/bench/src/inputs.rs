@@ -2,7 +2,7 @@
 
 use checks::calls::{Calls, Engine, Reference};
 use checks::fields::{Fields, IMAGE_LEN};
-use checks::packing::{frame, pack, Entry, MAX_ENTRIES, NONE};
+use checks::packing::{frame, pack, Entry, MAX_ENTRIES, MAX_TRAY, NONE};
 use checks::random::Random;
 
 pub const SIZES: [usize; 3] = [4, 16, 64];
@@ -10,7 +10,7 @@ pub const SIZES: [usize; 3] = [4, 16, 64];
 /// A name and how to make the input for a network of n.
 pub type Make = (&'static str, fn(usize) -> Input);
 
-pub const ALL: [Make; 11] = [
+pub const ALL: [Make; 13] = [
     ("value tray", value_tray),
     ("turn tray, equal lists", equal_lists),
     ("turn tray, a third of the lists random", random_third),
@@ -30,6 +30,11 @@ pub const ALL: [Make; 11] = [
         new_senders,
     ),
     ("value tray, 256 entries", repeated_entries),
+    ("turn tray, each frame four times", four_copies),
+    (
+        "turn tray, 256 entries under one number, the last differs",
+        last_differs,
+    ),
     ("whole run to decision", whole_run),
 ];
 
@@ -137,9 +142,9 @@ fn value_tray(size: usize) -> Input {
     }
 }
 
-/// Repeats the entries of all others until there are 256.
+/// The entries of all others, again and again up to 256.
 fn repeated_entries(size: usize) -> Input {
-    let frames = value_frames(size).into_iter().cycle().take(MAX_ENTRIES);
+    let frames = repeated(value_frames(size).into_iter(), MAX_ENTRIES);
     Input {
         image: state(size, 3).image(),
         trays: vec![from_others(3, frames)],
@@ -197,19 +202,63 @@ fn common_number(size: usize) -> Input {
     turn_tray(&state, list)
 }
 
-/// Different numbers from senders none of whom is heard yet, in falling order, with
-/// entries of length 0 behind them up to 256.
+/// Different numbers from senders none of whom is heard yet, in falling order, again
+/// and again up to 256 entries.
 fn new_senders(size: usize) -> Input {
     let mut state = state(size, 5);
     state.heard.truncate(1);
     state.echoes = own_numbers(size, 0);
-    let others = || numbers(size).into_iter().enumerate().skip(1).rev();
-    let frames = others().map(|(place, n)| (n, frame(5, NONE, &own_numbers(size, place))));
-    let again = others().cycle().map(|(_, n)| (n, Vec::new()));
+    let others = numbers(size).into_iter().enumerate().skip(1).rev();
+    let frames = others.map(|(place, n)| (n, frame(5, NONE, &own_numbers(size, place))));
     Input {
         image: state.image(),
-        trays: vec![from_others(5, frames.chain(again).take(MAX_ENTRIES))],
+        trays: vec![from_others(5, repeated(frames, MAX_ENTRIES))],
     }
+}
+
+/// All list the same numbers, and each frame is there four times.
+fn four_copies(size: usize) -> Input {
+    let mut state = state(size, 5);
+    let most = frame_room(4 * (size - 1)) / 4 - 2;
+    state.echoes = numbers(size.min(most));
+    let list = frame(5, NONE, &state.echoes);
+    let others = numbers(size).into_iter().skip(1);
+    let frames = others.map(|n| (n, list.clone()));
+    Input {
+        image: state.image(),
+        trays: vec![from_others(5, repeated(frames, 4 * (size - 1)))],
+    }
+}
+
+/// 256 entries under one number, of which the last one has another opinion.
+fn last_differs(size: usize) -> Input {
+    let mut state = state(size, 5);
+    let most = frame_room(MAX_ENTRIES) / 4 - 2;
+    state.echoes = numbers(size.min(most));
+    let sent = |bit| (state.king, frame(5, bit, &state.echoes));
+    let copies = std::iter::repeat_with(|| sent(1)).take(MAX_ENTRIES - 1);
+    Input {
+        image: state.image(),
+        trays: vec![from_others(5, copies.chain([sent(0)]))],
+    }
+}
+
+/// The most bytes of each frame, where a tray is to hold so many.
+fn frame_room(entries: usize) -> usize {
+    (MAX_TRAY - 8) / entries - 8
+}
+
+/// Frames again and again, so many of them or as many as a tray holds.
+fn repeated<F>(frames: F, entries: usize) -> Vec<(u32, Vec<u8>)>
+where
+    F: Iterator<Item = (u32, Vec<u8>)> + Clone,
+{
+    let mut end = 8;
+    let fits = |(_, bytes): &(u32, Vec<u8>)| {
+        end += 8 + bytes.len();
+        end <= MAX_TRAY
+    };
+    frames.cycle().take(entries).take_while(fits).collect()
 }
 
 /// Each lists n random numbers.

@@ -66,27 +66,29 @@ impl<'a> Directory<'a> {
             .any(|entry| entry.sender == 0 || entry.sender == own)
     }
 
-    /// Makes every sender heard and adds each one's first entry to `received`;
-    /// nothing if more than 64 would be heard. No sender is the controller itself.
+    /// Makes every sender heard and puts each one's frame into `received`; nothing if
+    /// more than 64 would be heard. No sender is the controller itself.
     pub fn hear(&self, heard: &mut List, received: &mut Received<'a>) -> Option<()> {
-        // Bit p is set if the one at place p of heard had an entry before.
-        let mut seen: u64 = 0;
+        // The place in `received` of the one at each place of heard.
+        let mut places = [NO_PLACE; MAX_NUMBERS];
         let mut guess = 0;
         for entry in self.entries() {
             let place = match place_of(heard, entry.sender, guess) {
                 Ok(place) => place,
                 Err(_) if heard.is_full() => return None,
                 Err(place) => {
+                    places.copy_within(place..heard.as_slice().len(), place + 1);
+                    places[place] = NO_PLACE;
                     heard.insert(place, entry.sender);
-                    seen = with_gap(seen, place);
                     place
                 }
             };
             guess = place + 1;
-            if seen & (1 << place) == 0 {
-                seen |= 1 << place;
-                let bytes = &self.tray[entry.offset..entry.offset + entry.length];
-                received.add(entry.sender, bytes);
+            let bytes = &self.tray[entry.offset..entry.offset + entry.length];
+            if places[place] == NO_PLACE {
+                places[place] = received.add(entry.sender, bytes);
+            } else {
+                received.repeat(places[place], bytes);
             }
         }
         Some(())
@@ -109,29 +111,35 @@ fn place_of(heard: &List, sender: u32, guess: usize) -> Result<usize, usize> {
     }
 }
 
-/// Moves the bits from `place` on up by one and clears the bit at `place`.
-fn with_gap(bits: u64, place: usize) -> u64 {
-    let below = (1 << place) - 1;
-    (bits & below) | ((bits & !below) << 1)
-}
+/// No place in `Received` yet.
+const NO_PLACE: u8 = u8::MAX;
 
-/// Each other sender with the bytes of its first entry.
+/// Each other sender with the bytes of its frame; nothing if its frames differ.
 pub struct Received<'a> {
     len: usize,
-    frames: [(u32, &'a [u8]); MAX_NUMBERS],
+    frames: [(u32, Option<&'a [u8]>); MAX_NUMBERS],
 }
 
 impl<'a> Received<'a> {
     pub fn empty() -> Received<'a> {
         Received {
             len: 0,
-            frames: [(0, &[]); MAX_NUMBERS],
+            frames: [(0, None); MAX_NUMBERS],
         }
     }
 
-    fn add(&mut self, sender: u32, bytes: &'a [u8]) {
-        self.frames[self.len] = (sender, bytes);
+    /// A sender's first frame; the place that it has here.
+    fn add(&mut self, sender: u32, bytes: &'a [u8]) -> u8 {
+        self.frames[self.len] = (sender, Some(bytes));
         self.len += 1;
+        (self.len - 1) as u8
+    }
+
+    /// One more frame of a sender: an equal copy counts once, and one that differs
+    /// leaves nothing.
+    fn repeat(&mut self, place: u8, bytes: &[u8]) {
+        let (_, frame) = &mut self.frames[usize::from(place)];
+        *frame = frame.filter(|first| *first == bytes);
     }
 
     /// The senders whose frames are not void for the state's round, with them.
@@ -139,13 +147,13 @@ impl<'a> Received<'a> {
         let round = state.round;
         self.frames[..self.len]
             .iter()
-            .filter_map(move |&(sender, bytes)| Some((sender, frame::read(bytes, round).ok()?)))
+            .filter_map(move |&(sender, bytes)| Some((sender, frame::read(bytes?, round).ok()?)))
     }
 
     /// A bound for how many numbers the frames list.
     pub fn most_listed(&self) -> usize {
         let frames = self.frames[..self.len].iter();
-        frames.map(|(_, bytes)| bytes.len() / 4).sum()
+        frames.map(|(_, bytes)| bytes.map_or(0, <[u8]>::len) / 4).sum()
     }
 
     /// One sender's frame, if it sent one that is not void for the state's round.
@@ -153,6 +161,6 @@ impl<'a> Received<'a> {
         let (_, bytes) = self.frames[..self.len]
             .iter()
             .find(|(sender, _)| *sender == number)?;
-        frame::read(bytes, state.round).ok()
+        frame::read((*bytes)?, state.round).ok()
     }
 }

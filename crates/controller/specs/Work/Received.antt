@@ -39,7 +39,7 @@ pub record Hears (l : List ℕ) (r : ℕ) (at : List ℕ) : Type 0 where
 pub record Finds (own : ℕ) (b l : List ℕ) (r : Bool) (f : List ℕ) : Type 0 where
   pub known : r ≡ true → (x : ℕ) → In x (senders (entries b)) → In x l × (x ≢ own)
   pub unknown : r ≡ false → ¬ ((x : ℕ) → In x (senders (entries b)) → In x l × (x ≢ own))
-  pub firsts : r ≡ true → (j : ℕ) → j < length l → bytesAt b (place b (getD f j 0)) ≡ firstBytes (getD l j 0) (entries b)
+  pub notes : r ≡ true → (j : ℕ) → j < length l → bytesAt b (place b (getD f j 0)) ≡ firstBytes (getD l j 0) (entries b)
 
 abbrev pub receivedBy : State → List ℕ → Received
 receivedBy s b = receive (view s) (entries b)
@@ -49,7 +49,7 @@ pub record Ready (s : State) (b f : List ℕ) : Type 0 where
   pub packed : wellFormed b ≡ true
   pub numbered : ¬ In 0 (senders (entries b))
   pub heard : (receivedBy s b) .heard ≡ listed (s .heard)
-  pub firsts : (j : ℕ) → j < length (listed (s .heard))
+  pub notes : (j : ℕ) → j < length (listed (s .heard))
       → bytesAt b (place b (getD f j 0)) ≡ firstBytes (getD (listed (s .heard)) j 0) (entries b)
 
 abbrev pub contentUnder : State → List ℕ → ℕ → ℕ → Option Content
@@ -73,5 +73,5 @@ abbrev pub NoEntries : List ℕ → List ℕ → Type 0
 NoEntries b f = (j : ℕ) → j < maxNumbers → getD f j 0 ≡ entryCount b
 
 abbrev pub WhereReady : Fields → Lent → Lent → Lent → (State → List ℕ → Type 0) → Type 0
-WhereReady f h tray firsts P =
-    (c e : List ℕ) → Ready (stateOf f (before h) c e) (before tray) (before firsts) → P (stateOf f (before h) c e) (before tray)
+WhereReady f h tray notes P =
+    (c e : List ℕ) → Ready (stateOf f (before h) c e) (before tray) (before notes) → P (stateOf f (before h) c e) (before tray)

@@ -1,19 +1,19 @@
 -- Laws of damage: other bytes, as many, in the place of one entry's frame leave a well packed tray well packed, and every other entry as it was.
 use Prim.Native.Nat.{ℕ, zero, suc, _+_, _-_, _≤_, _<_}
-use mathlib.Core.Bool.{Bool, true, false, cond}
-use mathlib.Core.List.{List, [], _∷_, _++_, append-assoc}
+use mathlib.Core.Bool.{true}
+use mathlib.Core.List.{List, [], _∷_, _++_, append-assoc, List·Memᴰ, List·Memᴰ·head, List·Memᴰ·tail}
 use mathlib.Core.Logic.{_⊎_, inl, inr, _≢_}
-use mathlib.Core.Option.{Option, some}
 use mathlib.Core.Path.{_≡_, refl, sym, ap, _∙_}
-use borrow.Author.Tests.{le-leb}
+use borrow.Author.Tests.{le-leb, ne-eqb}
 use native.Mathlib.Decide.{ℕ-discrete, decLt}
 use native.Mathlib.Omega.{arith}
-use lib.Dec.{eqb}
 use lib.ListN.{length, getD, set, take, drop, length-set, length-append, length-drop, List·getD-append}
 use lib.Seq.{length-take-le, take-at, drop-at, getD-append-add, getD-take, getD-drop, getD-set-same, getD-set-other, ext-getD}
 use Rattle.wire.specs.Limits.{entriesAt, zeroAt, offsetAt, lengthAt}
 use Rattle.wire.specs.Words.{halfAt, wordAt}
-use Rattle.wire.specs.Tray.{Entry, roundOf, entryCount, entryAt, offsetOf, lengthOf, sender, chained, wellFormed, part, entries, firstBytes, overwritten}
+use Rattle.wire.specs.Tray.{Entry, roundOf, entryCount, entryAt, offsetOf, lengthOf, sender, chained, wellFormed, part, entries, overwritten}
+use Rattle.wire.specs.Found.{framesUnder, amongFrames, under, one, several}
+use Rattle.wire.specs.Laws.Found.{under-member}
 use Rattle.wire.specs.Laws.Tray.{part-inside, parts-apart, directory-holds, entries-length, entry-at}
 
 -- ---- bytes of a part
@@ -167,26 +167,27 @@ module _ (s : List ℕ) (i : ℕ) (new : List ℕ) (packed : wellFormed s ≡ tr
       ext-getD written (entries b) (set (entries s) i written) (n ∙ sym (length-set (entries s) i written ∙ entries-length s))
       (λ j l. entry-overwritten j (rw n at l))
 
--- ---- a sender's first entry
+-- ---- what there is under a number
 
--- in place of entry i, another of the same sender: what counts of each number is as before, or the other's bytes
-first-set : (x i : ℕ) (e : Entry) (es : List Entry) → e .sender ≡ (getD es i e) .sender
-    → (firstBytes x (set es i e) ≡ firstBytes x es) ⊎ (firstBytes x (set es i e) ≡ some (e .bytes))
-first-set x i e [] same = inl refl
-first-set x zero e (y ∷ es) same = rw (← same) (pick (eqb (e .sender) x) (some (y .bytes)) (firstBytes x es))
-  where
-    pick : (t : Bool) (o r : Option (List ℕ)) → (cond t (some (e .bytes)) r ≡ cond t o r) ⊎ (cond t (some (e .bytes)) r ≡ some (e .bytes))
-    pick true o r = inr refl
-    pick false o r = inl refl
-first-set x (suc i) e (y ∷ es) same = pick (eqb (y .sender) x) (some (y .bytes)) (first-set x i e es same)
-  where
-    pick : (t : Bool) (o : Option (List ℕ)) {r r′ n : Option (List ℕ)} → (r′ ≡ r) ⊎ (r′ ≡ n) → (cond t o r′ ≡ cond t o r) ⊎ (cond t o r′ ≡ n)
-    pick true o rest = inl refl
-    pick false o rest = rest
+-- an entry that is set stands in the list
+set-member : (i : ℕ) (e : Entry) (es : List Entry) → i < length es → List·Memᴰ e (set es i e)
+set-member i e [] h = absurd (omega arith)
+set-member zero e (y ∷ es) h = List·Memᴰ·head refl
+set-member (suc i) e (y ∷ es) h = List·Memᴰ·tail (set-member i e es (omega arith))
 
-pub overwritten-first : (s : List ℕ) (i : ℕ) (new : List ℕ) → wellFormed s ≡ true → i < entryCount s → length new ≡ lengthOf s i → (x : ℕ)
-    → (firstBytes x (entries (overwritten s i new)) ≡ firstBytes x (entries s)) ⊎ (firstBytes x (entries (overwritten s i new)) ≡ some new)
-overwritten-first s i new packed counted as-many x =
+-- in place of entry i, another of the same sender: under another number there is what there was
+frames-set : (x i : ℕ) (e : Entry) (es : List Entry) → e .sender ≢ x → e .sender ≡ (getD es i e) .sender → framesUnder x (set es i e) ≡ framesUnder x es
+frames-set x i e [] d same = refl
+frames-set x zero e (y ∷ es) d same = rw (← same, ne-eqb (e .sender) x d)
+frames-set x (suc i) e (y ∷ es) d same = rw (frames-set x i e es d same)
+
+-- under each number there is what there was; or the new bytes, or several frames
+pub overwritten-under : (s : List ℕ) (i : ℕ) (new : List ℕ) → wellFormed s ≡ true → i < entryCount s → length new ≡ lengthOf s i → (x : ℕ)
+    → let es = entries (overwritten s i new) in
+    (under x es ≡ under x (entries s)) ⊎ ((under x es ≡ one new) ⊎ (under x es ≡ several))
+overwritten-under s i new packed counted as-many x =
     let e : Entry = record { sender = sender s i; bytes = new } in
-    rw (overwritten-entries s i new packed counted as-many)
-    (first-set x i e (entries s) (sym (ap (λ (y : Entry). y .sender) (entry-at s i e counted))))
+    rw (overwritten-entries s i new packed counted as-many) (elim (ℕ-discrete (sender s i) x) [
+      | yes q ↦ inr (under-member x e (set (entries s) i e) (set-member i e (entries s) (rw (entries-length s) counted)) q)
+      | no d ↦ inl (ap amongFrames (frames-set x i e (entries s) d (sym (ap (λ (y : Entry). y .sender) (entry-at s i e counted)))))
+    ])

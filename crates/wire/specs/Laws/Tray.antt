@@ -4,10 +4,10 @@ use mathlib.Core.Bool.{true, _&&_, and-eq-true-iff}
 use mathlib.Core.List.{List}
 use mathlib.Core.Path.{_≡_, refl, ap, subst}
 use mathlib.Core.Logic.{⊎-elim}
-use borrow.Author.Tests.{leb-true, ltb-true, eqb-true, lt-ltb, le-leb}
+use borrow.Author.Tests.{leb-true, eqb-true, le-leb}
 use native.Mathlib.Nat.{eq-or-lt-of-le}
 use native.Mathlib.Omega.{arith}
-use lib.Dec.{leb, ltb, eqb}
+use lib.Dec.{leb, eqb}
 use lib.ListN.{length, getD}
 use Rattle.wire.specs.Limits.{trayHeader, entriesAt, zeroAt, maxTray, maxEntries}
 use Rattle.wire.specs.Laws.Words.{half-below}
@@ -20,16 +20,9 @@ pub entry-count-below : (s : List ℕ) → Below 256 s → entryCount s < 65536
 unfolding entryCount
 entry-count-below s b = half-below s b entriesAt (leb trayHeader (length s))
 
--- what "in the directory" gives
-pub record InDirectory (s : List ℕ) (i : ℕ) : Type 0 where
-  pub counted : i < entryCount s
-  pub whole : entryAt (i + 1) ≤ length s
-
-pub in-directory-gives : (s : List ℕ) (i : ℕ) → inDirectory s i ≡ true → InDirectory s i
+pub in-directory-gives : (s : List ℕ) (i : ℕ) → inDirectory s i ≡ true → entryAt (i + 1) ≤ length s
 unfolding inDirectory
-in-directory-gives s i h =
-    let e = and-eq-true-iff (ltb i (entryCount s)) (leb (entryAt (i + 1)) (length s)) .0 h in
-    record { counted = ltb-true _ _ (e .0); whole = leb-true _ _ (e .1) }
+in-directory-gives s i h = leb-true _ _ h
 
 -- one step along the directory, as a loop over it takes it
 pub chained-step : (s : List ℕ) (n i at : ℕ) → i < n → chained s (n - i) i at ≡ (eqb (offsetOf s i) at && chained s (n - (i + 1)) (i + 1) (at + lengthOf s i))
@@ -114,7 +107,7 @@ pub directory-holds : (s : List ℕ) → wellFormed s ≡ true → (i : ℕ) →
 unfolding inDirectory
 directory-holds s h i l =
     let d = well-formed-gives s h .directory in
-    rw (lt-ltb i (entryCount s) l, le-leb (entryAt (i + 1)) (length s) (omega arith))
+    le-leb (entryAt (i + 1)) (length s) (omega arith)
 
 -- ---- the tray as a list of entries
 

@@ -13,14 +13,14 @@ use Rattle.controller.proofs.alike.alike.Statement.{statement}
 use Rattle.controller.proofs.alike.alike.Tie as tie
 
 abbrev Inv-loop : tie.InvT-loop
-Inv-loop own tray heard len firsts j i₀ i =
+Inv-loop own tray heard len notes j i₀ i =
     (j < i)
     × (i ≤ len)
     × ((k : ℕ) → j < k → k < i
-    → (getD heard k 0 ≢ own) × (bytesAt tray (place tray (getD firsts k 0)) ≡ bytesAt tray (place tray (getD firsts j 0))))
+    → (getD heard k 0 ≢ own) × (bytesAt tray (place tray (getD notes k 0)) ≡ bytesAt tray (place tray (getD notes j 0))))
 
 abbrev μ-loop : tie.MeasureT-loop
-μ-loop own tray heard len firsts j i₀ i = len - i
+μ-loop own tray heard len notes j i₀ i = len - i
 
 -- what was given; the turn in which two entries are compared
 abbrev given : tie.After-shared-slice-known4 Inv-loop μ-loop → tie.Start Inv-loop μ-loop
@@ -38,7 +38,7 @@ outside c = given (c .before .before)
 -- the places passed so far are the answer
 so-far : (c : tie.At-loop Inv-loop μ-loop)
     → let a = outside c .args in
-    Alike (a .own) (now (a .tray)) (now (a .heard)) (a .len) (now (a .firsts)) (a .j) (c .loop .i - a .j)
+    Alike (a .own) (now (a .tray)) (now (a .heard)) (a .len) (now (a .notes)) (a .j) (c .loop .i - a .j)
 so-far c =
     let v = c .loop in
     record {

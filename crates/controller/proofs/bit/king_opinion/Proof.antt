@@ -78,7 +78,7 @@ received-bit-requires c κs = search needs
 told : (c : tie.After-received-bit) (x e : List ℕ)
     → let a = given (heard c .before) .args in
     let s = stateOf (a .fields) (now (a .heard)) x e in
-    Ready s (now (a .tray)) (now (a .firsts)) → kindOf (s .round) ≡ 5
+    Ready s (now (a .tray)) (now (a .notes)) → kindOf (s .round) ≡ 5
     → kingOpinion (view s) (receivedBy s (now (a .tray))) ≡ cond (leb (c .received-bit .result) 1) (c .received-bit .result) 2
 told c x e ready turn =
     let at = heard c in

@@ -39,11 +39,11 @@ still-left false {n} {v} {s} {l} {c} {e} {before} f h u w q z p a =
     rw (rw q at (p .output)) (promise-refused n 8 v _ before (answerOf w h c e) q refl same)
 
 -- those heard, few enough; their first entries; the call of `work_heard`
-abbrev placed : tie.After-firsts → tie.Then2
+abbrev placed : tie.After-notes → tie.Then2
 placed c = c .before .before .before
 
-abbrev firsts : tie.After-work-heard-arg3 → tie.After-first-entries
-firsts c = c .before .before .before .before .before
+abbrev notes : tie.After-work-heard-arg3 → tie.After-first-entries
+notes c = c .before .before .before .before .before
 
 abbrev called : tie.After-struct-known → tie.After-work-heard
 called c = c .before .before .before
@@ -59,7 +59,7 @@ abbrev few : tie.After-first-entries → tie.Then2
 few c = placed (c .before)
 
 abbrev found : tie.After-work-heard → tie.After-first-entries
-found c = firsts (c .before)
+found c = notes (c .before)
 
 abbrev before : tie.After-senders-fit → State
 before c = let a = given c .args in stateOf (a .fields) (now (a .heard)) (now (a .candidates)) (now (a .echoes))
@@ -92,7 +92,7 @@ first-entries-requires c κs =
 
 work-heard-requires : tie.Need-work-heard-requires
 work-heard-requires c κs =
-    let found = firsts c in
+    let found = notes c in
     let at = few found in
     let first = asked (at .before) in
     let pre = given (first .before) .pre in

@@ -25,13 +25,13 @@ use Rattle.controller.proofs.opened.open_lists.Statement.{statement}
 use Rattle.controller.proofs.opened.open_lists.Tie as tie
 
 abbrev Inv-loop : tie.InvT-loop
-Inv-loop fields heard own tray firsts starts₀ counts₀ sent₀ len₀ j₀ starts counts sent len j =
+Inv-loop fields heard own tray notes starts₀ counts₀ sent₀ len₀ j₀ starts counts sent len j =
     (j ≤ fields .heard)
     × (getD counts 0 0 ≡ sentCount fields)
     × Opening (lists (receivedBy (stateOf fields heard [] own) tray)) own tray starts counts sent len j
 
 abbrev μ-loop : tie.MeasureT-loop
-μ-loop fields heard own tray firsts starts₀ counts₀ sent₀ len₀ j₀ starts counts sent len j = fields .heard - j
+μ-loop fields heard own tray notes starts₀ counts₀ sent₀ len₀ j₀ starts counts sent len j = fields .heard - j
 
 -- the lent tray, and what is asked of `open_received`
 abbrev lent : tie.After-sent-count Inv-loop μ-loop → tie.After-shared-slice-known2 Inv-loop μ-loop
@@ -67,13 +67,13 @@ weight-fits c = omega (arith, c .alike .ensures .inside, ready-few (outside (tur
 list-is : (c : tie.Then1 Inv-loop μ-loop)
     → let a = outside (c .before .before) .args in
     let j = c .before .before .loop .j in
-    listUnder (a .fields) (now (a .own)) (now (a .tray)) (getD (now (a .heard)) j 0) (getD (now (a .firsts)) j 0)
+    listUnder (a .fields) (now (a .own)) (now (a .tray)) (getD (now (a .heard)) j 0) (getD (now (a .notes)) j 0)
     ≡ nthList (lists (receivedBy (state (c .before .before)) (now (a .tray)))) j
 list-is c =
     let a = outside (c .before .before) .args in
     let pre = outside (c .before .before) .pre in
     let j = c .before .before .loop .j in
-    under-list (a .fields) (now (a .heard)) (pre .candidates) (now (a .own)) (now (a .tray)) (getD (now (a .heard)) j 0) (getD (now (a .firsts)) j 0)
+    under-list (a .fields) (now (a .heard)) (pre .candidates) (now (a .own)) (now (a .tray)) (getD (now (a .heard)) j 0) (getD (now (a .notes)) j 0)
     ∙ ready-list (pre .ready) j (c .if1 .taken)
 
 sent-count-requires : tie.Need-sent-count-requires Inv-loop μ-loop

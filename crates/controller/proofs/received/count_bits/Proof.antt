@@ -48,15 +48,15 @@ module _ {s : State} {b f : List ℕ} (ready : Ready s b f) (bit j n : ℕ) (sum
   ended h = sum ∙ ap (countIf (counted s b bit)) (take-all j (listed (s .heard)) (omega (arith, h, ready-used ready)) ∙ ready-listed ready)
 
 abbrev Inv-loop : tie.InvT-loop
-Inv-loop fields heard tray firsts zeros₀ ones₀ j₀ zeros ones j =
+Inv-loop fields heard tray notes zeros₀ ones₀ j₀ zeros ones j =
     (j ≤ fields .heard)
     × (zeros ≤ j)
     × (ones ≤ j)
-    × ((c e : List ℕ) → Ready (stateOf fields heard c e) tray firsts
+    × ((c e : List ℕ) → Ready (stateOf fields heard c e) tray notes
     → (zeros ≡ total (stateOf fields heard c e) tray 0 j) × (ones ≡ total (stateOf fields heard c e) tray 1 j))
 
 abbrev μ-loop : tie.MeasureT-loop
-μ-loop fields heard tray firsts zeros₀ ones₀ j₀ zeros ones j = fields .heard - j
+μ-loop fields heard tray notes zeros₀ ones₀ j₀ zeros ones j = fields .heard - j
 
 one-most : (d bit : ℕ) → cond (eqb d bit) 1 0 ≤ 1
 one-most d bit = pick (eqb d bit)

@@ -52,8 +52,8 @@ module _ (b l at : List ℕ) (i : ℕ) (e : i ≡ entryCount b) where
   nothing-left : entryCount b - i ≡ 0
   nothing-left = omega arith
 
-  firsts-start : ((j : ℕ) → j < maxNumbers → getD at j 0 ≡ entryCount b) → length l ≤ maxNumbers → Firsts b l at i
-  firsts-start unset few j h = rw (nothing-left, unset j (omega arith), place-behind b)
+  notes-start : ((j : ℕ) → j < maxNumbers → getD at j 0 ≡ entryCount b) → length l ≤ maxNumbers → Firsts b l at i
+  notes-start unset few j h = rw (nothing-left, unset j (omega arith), place-behind b)
 
   known-start : (own : ℕ) → Known own b l i
   known-start own x j = absurd (List·Memᴰ·not-nil (rw nothing-left at j))
@@ -88,9 +88,9 @@ module _ (b l : List ℕ) (i : ℕ) (h : i < entryCount b) (heard : In (sender b
       ≡ cond (eqb (sender b i) x) (some (part b (offsetOf b i) (lengthOf b i))) (firstBytes x (entriesFrom b (entryCount b - (i + 1)) (i + 1)))
   step x = let e : entryCount b - i ≡ suc (entryCount b - (i + 1)) = omega arith in rw e
 
-  firsts-turn : (at : List ℕ) (p : ℕ) → wellFormed b ≡ true → Rising l → length l ≤ length at
+  notes-turn : (at : List ℕ) (p : ℕ) → wellFormed b ≡ true → Rising l → length l ≤ length at
       → p ≡ below (sender b i) l → Firsts b l at (i + 1) → Firsts b l (set at p i) i
-  firsts-turn at p packed up room here behind j k = elim (ℕ-discrete j p) [
+  notes-turn at p packed up room here behind j k = elim (ℕ-discrete j p) [
     | yes e ↦
         let there : getD l j 0 ≡ sender b i = ap (λ q. getD l q 0) (e ∙ here) ∙ rising-place (sender b i) l up heard in
         let put : getD (set at p i) j 0 ≡ i = ap (λ q. getD (set at p i) q 0) e ∙ getD-set-same at p i 0 (omega arith) in
@@ -107,26 +107,26 @@ unknown : (own : ℕ) (b l at : List ℕ) (i x : ℕ) → i < entryCount b → x
 unknown own b l at i x h e unfit = record {
   known = λ t. absurd (true≢false (sym t));
   unknown = λ t all. unfit (all x (Memᴰ·cast e (sender-in b i h)));
-  firsts = λ t. absurd (true≢false (sym t));
+  notes = λ t. absurd (true≢false (sym t));
 }
 
 found : (own : ℕ) (b l at : List ℕ) (i : ℕ) → i ≡ 0 → Known own b l i → Firsts b l at i → Finds own b l true at
 unfolding entries
-found own b l at i e known firsts = record {
+found own b l at i e known notes = record {
   known = λ t. rw sub-zero at (subst (Known own b l) e known);
   unknown = λ t. absurd (true≢false t);
-  firsts = λ t. rw sub-zero at (subst (Firsts b l at) e firsts);
+  notes = λ t. rw sub-zero at (subst (Firsts b l at) e notes);
 }
 
 abbrev Inv-loop : tie.InvT-loop
-Inv-loop tray own heard len firsts₀ next₀ i₀ firsts next i =
+Inv-loop tray own heard len notes₀ next₀ i₀ notes next i =
     (i ≤ entryCount tray)
-    × (0 < i → maxNumbers ≤ length firsts)
+    × (0 < i → maxNumbers ≤ length notes)
     × Known own tray (listed (record { len = len; at = heard })) i
-    × Firsts tray (listed (record { len = len; at = heard })) firsts i
+    × Firsts tray (listed (record { len = len; at = heard })) notes i
 
 abbrev μ-loop : tie.MeasureT-loop
-μ-loop tray own heard len firsts₀ next₀ i₀ firsts next i = i
+μ-loop tray own heard len notes₀ next₀ i₀ notes next i = i
 
 -- what was given, and the sender that was looked for
 abbrev outside : tie.At-loop Inv-loop μ-loop → tie.Start Inv-loop μ-loop
@@ -155,9 +155,9 @@ loop-holds c =
     let l = listed (list start) in
     let count : c .entry-count .result ≡ entryCount b = c .entry-count .ensures in (
       omega arith,
-      λ h. room-start (now (start .args .firsts)) (entryCount b) (start .pre .2) (omega arith),
-      known-start b l (now (start .args .firsts)) (c .entry-count .result) count (start .args .own),
-      firsts-start b l (now (start .args .firsts)) (c .entry-count .result) count (start .pre .2) (list-tests start .list .short),
+      λ h. room-start (now (start .args .notes)) (entryCount b) (start .pre .2) (omega arith),
+      known-start b l (now (start .args .notes)) (c .entry-count .result) count (start .args .own),
+      notes-start b l (now (start .args .notes)) (c .entry-count .result) count (start .pre .2) (list-tests start .list .short),
     )
 
 sub-i : tie.Need-sub-i Inv-loop μ-loop
@@ -194,11 +194,11 @@ place-short c =
     let was = list-tests (given (turn c)) in
     omega (arith, c .before .before .place-near .ensures, was .list .short, below-short (listed (list (given (turn c)))) (was .list .rises) _ (heard-here c))
 
-mul-firsts : tie.Need-mul-firsts Inv-loop μ-loop
-mul-firsts c = let h = place-short c in search needs
+mul-notes : tie.Need-mul-notes Inv-loop μ-loop
+mul-notes c = let h = place-short c in search needs
 
-element-write-firsts : tie.Need-element-write-firsts Inv-loop μ-loop
-element-write-firsts c = place-short c
+element-write-notes : tie.Need-element-write-notes Inv-loop μ-loop
+element-write-notes c = place-short c
 
 returns-2 : tie.Need-returns-2 Inv-loop μ-loop
 returns-2 c =
@@ -231,19 +231,19 @@ loop-again c =
     let heard : In (sender b i) l = Memᴰ·cast (sym (sent .ensures)) (heard-here c) in
     let here : near .result ≡ below (sender b i) l = near .ensures ∙ ap (λ x. below x l) (sent .ensures) in
     let back : v .i ≡ i + 1 = omega (arith, at .loop-test .taken) in
-    let room : length l ≤ length (v .firsts) = omega (arith, was .list .short, v .inv .1 (at .loop-test .taken)) in
+    let room : length l ≤ length (v .notes) = omega (arith, was .list .short, v .inv .1 (at .loop-test .taken)) in
     let apart : sender b i ≢ start .args .own = λ o. c .before .before .before .if1 .left (sent .ensures ∙ o) in (
       omega arith,
       λ k. simp length-set (v .inv .1 (at .loop-test .taken)),
       known-turn b l i h heard (start .args .own) apart (subst (Known (start .args .own) b l) back (v .inv .2)),
-      firsts-turn b l i h heard (v .firsts) (near .result) (start .pre .0) (was .list .rises) room here (subst (Firsts b l (v .firsts)) back (v .inv .3)),
+      notes-turn b l i h heard (v .notes) (near .result) (start .pre .0) (was .list .rises) room here (subst (Firsts b l (v .notes)) back (v .inv .3)),
     )
 
 returns-3 : tie.Need-returns-3 Inv-loop μ-loop
 returns-3 c =
     let v = c .before .loop in
     let start = outside (c .before) in
-    found (start .args .own) (now (start .args .tray)) (listed (list start)) (v .firsts) (v .i) (omega (arith, c .loop-test .left)) (v .inv .2) (v .inv .3)
+    found (start .args .own) (now (start .args .tray)) (listed (list start)) (v .notes) (v .i) (omega (arith, c .loop-test .left)) (v .inv .2) (v .inv .3)
 
 pub first-entries-spec : {M : Type 1} → statement M
 first-entries-spec =
@@ -258,8 +258,8 @@ first-entries-spec =
     returns
     place-near-requires
     has-at-requires
-    mul-firsts
-    element-write-firsts
+    mul-notes
+    element-write-notes
     returns-2
     add-next
     sub-next

@@ -81,14 +81,14 @@ module _ {s : State} {b f : List ℕ} (ready : Ready s b f) (first : kindOf (s .
   left e = list ∙ ap stored (sym (fails (sent-init s b) (listed (s .heard)) j within (sym asked ∙ ne-eqb d 2 e)))
 
 abbrev Inv-loop : tie.InvT-loop
-Inv-loop fields heard tray firsts list₀ k₀ j₀ list k j =
+Inv-loop fields heard tray notes list₀ k₀ j₀ list k j =
     (j ≤ fields .heard)
     × (k ≤ j)
-    × ((c e : List ℕ) → Ready (stateOf fields heard c e) tray firsts → kindOf (fields .round) ≡ 1
+    × ((c e : List ℕ) → Ready (stateOf fields heard c e) tray notes → kindOf (fields .round) ≡ 1
     → inPlaces k list ≡ stored (senders (stateOf fields heard c e) tray j))
 
 abbrev μ-loop : tie.MeasureT-loop
-μ-loop fields heard tray firsts list₀ k₀ j₀ list k j = fields .heard - j
+μ-loop fields heard tray notes list₀ k₀ j₀ list k j = fields .heard - j
 
 -- what was given, from the loop; and the turn's begin, from where its bit was read
 abbrev given : tie.At-loop Inv-loop μ-loop → tie.Start Inv-loop μ-loop

@@ -58,7 +58,7 @@ module _ {s : State} {b f : List ℕ} (ready : Ready s b f) where
   unfolding receive
   ready-content j h =
       let copied : getD (listed (s .heard)) j 0 ≡ getD (s .heard .at) j 0 = getD-take (s .heard .len) (s .heard .at) j 0 h in
-      let first = ready .firsts j (omega (arith, h, ready-used)) in
+      let first = ready .notes j (omega (arith, h, ready-used)) in
       rw (copied, first, copied)
 
   pub ready-list : (j : ℕ) → j < s .heard .len → listIn (contentUnder s b (getD (s .heard .at) j 0) (getD f j 0)) ≡ nthList (lists (receivedBy s b)) j

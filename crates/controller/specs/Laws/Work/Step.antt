@@ -45,7 +45,7 @@ ready-found s b f h packed known first =
       packed = packed;
       numbered = λ i. omega (arith, heard .positive 0 (known 0 i));
       heard = heard-known (view s) (entries b) (heard .rises) known;
-      firsts = first;
+      notes = first;
     }
 
 -- ---- the lists that a step leaves as they were

@@ -1,40 +1,37 @@
--- `wire::tray::entry_place` meets its contract: within the directory the entry lies in the tray, so its offset and length can be read.
+-- `wire::tray::entry_place` meets its contract: within the directory the entry lies in the tray, so its last word can be read.
+use Prim.Native.Nat.{_+_, _≤_}
 use mathlib.Core.Path.{sym, _∙_}
 use native.Mathlib.Omega.{arith}
 use borrow.Author.Needs.{needs}
 use denote.Ref.{now}
-use Rattle.wire.specs.Laws.Tray.{InDirectory, in-directory-gives}
-use Rattle.wire.specs.Tray.{place}
+use lib.ListN.{length}
+use Rattle.wire.specs.Laws.Tray.{in-directory-gives}
+use Rattle.wire.specs.Tray.{entryAt, place}
 use Rattle.wire.proofs.tray.entry_place.Statement.{statement}
 use Rattle.wire.proofs.tray.entry_place.Tie as tie
 
-within : (c : tie.Then1) → let a = c .before .before .before .args in InDirectory (now (a .tray)) (a .i)
-within c = in-directory-gives _ _ (sym (c .before .in-directory .ensures) ∙ c .if1 .taken)
+-- it ends within the tray
+whole : (c : tie.Then1) → let a = c .before .before .before .args in entryAt (a .i + 1) ≤ length (now (a .tray))
+whole c = in-directory-gives _ _ (sym (c .before .in-directory .ensures) ∙ c .if1 .taken)
 
 in-directory-requires : tie.Need-in-directory-requires
 in-directory-requires c κs = search needs
 
-mul-entry : tie.Need-mul-entry
-mul-entry c = omega (arith, within c .whole)
+mul-word : tie.Need-mul-word
+mul-word c = omega (arith, whole c)
 
-add-entry : tie.Need-add-entry
-add-entry c = omega (arith, within c .whole)
+add-word : tie.Need-add-word
+add-word c = omega (arith, whole c)
 
-add-half : tie.Need-add-half
-add-half c = omega (arith, within c .whole)
+add-word-2 : tie.Need-add-word-2
+add-word-2 c = omega (arith, whole c)
 
-half-requires : tie.Need-half-requires
-half-requires c κs = omega (arith, within c .whole)
-
-add-half-2 : tie.Need-add-half-2
-add-half-2 c = omega (arith, within (c .before) .whole)
-
-half-requires-2 : tie.Need-half-requires-2
-half-requires-2 c κs = omega (arith, within (c .before) .whole)
+word-requires : tie.Need-word-requires
+word-requires c κs = omega (arith, whole c)
 
 returns : tie.Need-returns
 unfolding place
-returns c = rw (sym (c .before .before .before .in-directory .ensures) ∙ c .before .before .if1 .taken) (cc)
+returns c = rw (sym (c .before .before .in-directory .ensures) ∙ c .before .if1 .taken) (c .word .ensures)
 
 returns-2 : tie.Need-returns-2
 unfolding place
@@ -42,14 +39,4 @@ returns-2 c = rw (sym (c .before .in-directory .ensures) ∙ c .if1 .left)
 
 pub entry-place-spec : {M : Type 1} → statement M
 entry-place-spec =
-    tie.close
-    (tie.spec
-    in-directory-requires
-    mul-entry
-    add-entry
-    add-half
-    half-requires
-    add-half-2
-    half-requires-2
-    returns
-    returns-2)
+    tie.close (tie.spec in-directory-requires mul-word add-word add-word-2 word-requires returns returns-2)

@@ -12,7 +12,7 @@ use Rattle.wire.proofs.tray.entry_sender.Tie as tie
 
 -- it ends within the tray
 whole : (c : tie.Then1) → let a = c .before .before .before .args in entryAt (a .i + 1) ≤ length (now (a .tray))
-whole c = in-directory-gives _ _ (sym (c .before .in-directory .ensures) ∙ c .if1 .taken) .whole
+whole c = in-directory-gives _ _ (sym (c .before .in-directory .ensures) ∙ c .if1 .taken)
 
 in-directory-requires : tie.Need-in-directory-requires
 in-directory-requires c κs = search needs

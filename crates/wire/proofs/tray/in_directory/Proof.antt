@@ -1,37 +1,35 @@
--- `wire::tray::in_directory` meets its contract: the branch gives the first test of `inDirectory` its value. A count is below 2 ^ 16, so no sum wraps.
-use Prim.Native.Nat.{_<_}
+-- `wire::tray::in_directory` meets its contract: so many entries lie in the tray as there are whole eights behind the header.
+use Prim.Native.Nat.{ℕ, _+_, _*_, _-_, _/_, _≤_, _<_}
+use mathlib.Core.Bool.{false}
+use mathlib.Core.Path.{_≡_, sym}
+use native.Mathlib.Decide.{decLe}
 use native.Mathlib.Omega.{arith}
 use borrow.Author.Needs.{needs}
-use borrow.Author.Tests.{lt-ltb, le-ltb}
-use denote.Ref.{now}
-use Rattle.wire.specs.Laws.Tray.{entry-count-below}
+use borrow.Author.Tests.{le-leb, lt-leb, lt-ltb, le-ltb}
+use lib.Dec.{leb, ltb}
 use Rattle.wire.specs.Tray.{inDirectory}
 use Rattle.wire.proofs.tray.in_directory.Statement.{statement}
 use Rattle.wire.proofs.tray.in_directory.Tie as tie
 
-count-below : (c : tie.After-entry-count) → c .entry-count .result < 65536
-count-below c = rw (c .entry-count .ensures) (entry-count-below (now (c .before .before .args .tray)) (λ i. c .before .shared-slice-known .given i .fits))
+eights : (n i : ℕ) → 8 ≤ n → ltb i ((n - 8) / 8) ≡ leb (8 + 8 * (i + 1)) n
+eights n i h = elim (decLe (8 + 8 * (i + 1)) n) [
+  | yes l ↦ rw (lt-ltb i ((n - 8) / 8) (omega arith), le-leb (8 + 8 * (i + 1)) n l)
+  | no l ↦ rw (le-ltb i ((n - 8) / 8) (omega arith), lt-leb (8 + 8 * (i + 1)) n (omega arith))
+]
 
-entry-count-requires : tie.Need-entry-count-requires
-entry-count-requires c κs = search needs
+short : (n i : ℕ) → n < 8 → leb (8 + 8 * (i + 1)) n ≡ false
+short n i h = lt-leb (8 + 8 * (i + 1)) n (omega arith)
 
-add-result : tie.Need-add-result
-add-result c = search needs
-
-mul-result : tie.Need-mul-result
-mul-result c = omega (arith, count-below (c .before))
-
-add-result-2 : tie.Need-add-result-2
-add-result-2 c = omega (arith, count-below (c .before))
+sub-result : tie.Need-sub-result
+sub-result c = search needs
 
 returns : tie.Need-returns
 unfolding inDirectory
-returns c = rw (← c .before .entry-count .ensures, lt-ltb _ _ (c .if1 .taken))
+returns c = eights _ _ (c .if1 .taken)
 
 returns-2 : tie.Need-returns-2
 unfolding inDirectory
-returns-2 c = rw (← c .before .entry-count .ensures, le-ltb _ _ (c .if1 .left))
+returns-2 c = rw (lt-leb _ _ (c .if1 .left)) (sym (short _ (c .before .args .i) (c .if1 .left)))
 
 pub in-directory-spec : {M : Type 1} → statement M
-in-directory-spec =
-    tie.close (tie.spec entry-count-requires add-result mul-result add-result-2 returns returns-2)
+in-directory-spec = tie.close (tie.spec sub-result returns returns-2)
