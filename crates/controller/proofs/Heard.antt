@@ -1,31 +1,30 @@
 -- A state that has heard a tray's senders: it is sound, and it takes the step that the state before takes.
 --     heardState s n    the state s with the list n of those heard
-use Prim.Native.Nat.{ℕ, _≤_}
-use mathlib.Core.Bool.{Bool, true, false, not, cond, and-eq-true-iff}
-use mathlib.Core.List.{List, Memᴰ·cast}
-use mathlib.Core.Logic.{inl, inr, _≢_}
-use mathlib.Core.Path.{_≡_, refl, sym, ap, _∙_}
-use borrow.Author.Tests.{not-true, le-leb, leb-true}
+use Prim.Native.Nat.{ℕ, _≤_, _<_}
+use mathlib.Core.Bool.{true, cond, _&&_, and-eq-true-iff}
+use mathlib.Core.List.{List}
+use mathlib.Core.Logic.{inl, inr}
+use mathlib.Core.Path.{_≡_, sym, ap, subst, _∙_}
+use borrow.Author.Tests.{le-leb, leb-true}
 use lib.Dec.{leb}
-use lib.ListN.{length}
+use lib.ListN.{length, getD}
+use Rattle.wire.specs.Found.{found, foundBy}
 use Rattle.wire.specs.Limits.{maxNumbers}
 use Rattle.wire.specs.Laws.Numbers.{listed-stored}
 use Rattle.wire.specs.Numbers.{stored, listed}
 use Rattle.wire.specs.Tray.{Entry, entries}
 use Rattle.wire.specs.declared.frame.Numbers.{Numbers}
 use Rattle.controller.specs.Calls.{Promise}
-use Rattle.controller.specs.Laws.Lists.{mem-out, out-mem}
-use Rattle.controller.specs.Laws.Work.Ready.{ready-short}
 use Rattle.controller.specs.Laws.Received.{heard-in}
 use Rattle.controller.specs.Laws.Rules.{withHeard, heard-sound, next-already-heard}
 use Rattle.controller.specs.Laws.State.{Sound, sound-gives, sound-stored, sound-test, view-stored}
 use Rattle.controller.specs.Laws.Work.Step.{ready-found}
-use Rattle.controller.specs.Lists.{In, mem, insertAll}
+use Rattle.controller.specs.Lists.{In}
 use Rattle.controller.specs.Received.{senders, receive}
 use Rattle.controller.specs.Refusals.{trayRefusal, sendersFit, heardFit, listsFit}
 use Rattle.controller.specs.Rules.{next}
 use Rattle.controller.specs.State.{View, view, storedState, sound, bitPart, stateFrom}
-use Rattle.controller.specs.Work.Received.{Hears, Finds, Ready}
+use Rattle.controller.specs.Work.Received.{Hears, Ready}
 use Rattle.controller.specs.Work.Calls.{Checked}
 use Rattle.controller.specs.declared.state.Answer.{Answer}
 use Rattle.controller.specs.declared.state.State.{State}
@@ -69,61 +68,46 @@ module _ (s : State) (es : List Entry) (n : Numbers) (h : sound s ≡ true) (e :
       } in
       ap sound more-image ∙ sound-test _ all
 
--- where all senders are heard the state is ready for the tray, and of the tests only the last is left
-module _ {s : State} {b f : List ℕ} {n : ℕ} {r : Bool} (k : Checked s b n) (found : Finds (s .own) b (listed (s .heard)) r f) (all : r ≡ true) where
-  pub known-ready : Ready s b f
-  known-ready = ready-found s b f (k .sound) (k .packed) (λ x i. found .known all x i .0) (found .notes all)
-
-  pub known-promised : {v : View} {before after : List ℕ} {a : Answer}
-      → Promise (cond (listsFit (view s) (entries b)) 0 8) v s before a after
-      → Promise (trayRefusal s b n) v s before a after
-  known-promised p =
-      let none = out-mem (senders (entries b)) (known-ready .numbered) in
-      let others = out-mem (senders (entries b)) (λ i. found .known all (s .own) i .1 refl) in
-      rw (tests-left k, none, others, le-leb _ _ (ready-short known-ready)) p
-
 -- what `hear` answers, in the rules' words
-pub heard-fits : (s : State) (es : List Entry) {r : ℕ} {at : List ℕ} → Hears (insertAll (senders es) (listed (s .heard))) r at
-    → leb r maxNumbers ≡ heardFit (view s) es
-unfolding receive
-heard-fits s es heard = heard .fits
+module _ {s : State} {b : List ℕ} {n : ℕ} (k : Checked s b n) {r : ℕ} {at f : List ℕ} (heard : Hears (s .own) b (listed (s .heard)) r at f) where
+  pub hearing-fits : leb r maxNumbers ≡ (sendersFit (view s) (entries b) && heardFit (view s) (entries b))
+  unfolding receive
+  hearing-fits = heard .fits
 
-heard-list : (s : State) (es : List Entry) {r : ℕ} {at : List ℕ} → Hears (insertAll (senders es) (listed (s .heard))) r at → r ≤ maxNumbers
-    → _≡_ {A = Numbers} (record { len = r; at = at }) (stored ((receive (view s) es) .heard))
-unfolding receive
-heard-list s es heard = heard .list
+  -- where it fits, one that has heard the senders is ready
+  module _ (few : r ≤ maxNumbers) where
+    -- those heard
+    abbrev all : Numbers
+    all = record { len = r; at = at }
 
--- one that has heard the senders is ready: none is the own number, so `first_entries` finds them all
-module _ {s : State} {b : List ℕ} {n : ℕ} (k : Checked s b n) (sent : sendersFit (view s) (entries b) ≡ true) {r : ℕ} {at : List ℕ}
-    (heard : Hears (insertAll (senders (entries b)) (listed (s .heard))) r at) (few : r ≤ maxNumbers) where
-  -- those heard
-  abbrev all : Numbers
-  all = record { len = r; at = at }
+    list : all ≡ stored ((receive (view s) (entries b)) .heard)
+    unfolding receive
+    list = heard .list few
 
-  list : all ≡ stored ((receive (view s) (entries b)) .heard)
-  list = heard-list s (entries b) heard few
+    sent : sendersFit (view s) (entries b) ≡ true
+    sent = and-eq-true-iff (sendersFit (view s) (entries b)) (heardFit (view s) (entries b)) .0 (sym hearing-fits ∙ le-leb _ _ few) .0
 
-  fits : heardFit (view s) (entries b) ≡ true
-  fits = sym (heard-fits s (entries b) heard) ∙ le-leb _ _ few
+    fits : heardFit (view s) (entries b) ≡ true
+    fits = and-eq-true-iff (sendersFit (view s) (entries b)) (heardFit (view s) (entries b)) .0 (sym hearing-fits ∙ le-leb _ _ few) .1
 
-  pub hearing-sound : sound (heardState s all) ≡ true
-  hearing-sound = more-sound s (entries b) all (k .sound) list (senders-numbered s b sent) (leb-true _ _ fits)
+    hearing-sound : sound (heardState s all) ≡ true
+    hearing-sound = more-sound s (entries b) all (k .sound) list (senders-numbered s b sent) (leb-true _ _ fits)
 
-  known : (x : ℕ) → In x (senders (entries b)) → In x (listed all) × (x ≢ s .own)
-  known x i =
-      let own = and-eq-true-iff (not (mem 0 (senders (entries b)))) (not (mem (s .own) (senders (entries b)))) .0 sent .1 in
-      let same : (receive (view s) (entries b)) .heard ≡ listed all = sym (ap listed list ∙ listed-stored _) in
-      (rw same at (heard-in (view s) (entries b) .1 (inl i)), λ q. mem-out (senders (entries b)) (not-true _ own) (Memᴰ·cast (sym q) i))
+    same : (receive (view s) (entries b)) .heard ≡ listed all
+    same = sym (ap listed list ∙ listed-stored _)
 
-  pub hearing-ready : (q : Bool) {f : List ℕ} → Finds (s .own) b (listed all) q f → Ready (heardState s all) b f
-  hearing-ready true {f} found = ready-found (heardState s all) b f hearing-sound (k .packed) (λ x i. known x i .0) (found .notes refl)
-  hearing-ready false found = absurd (found .unknown refl known)
+    pub hearing-ready : Ready (heardState s all) b f
+    unfolding receive
+    hearing-ready =
+        ready-found (heardState s all) b f hearing-sound (k .packed)
+        (λ x i. subst (In x) same (heard-in (view s) (entries b) .1 (inl i)))
+        (subst (λ (l : List ℕ). (j : ℕ) → j < length l → foundBy (getD f j 0) ≡ found b (getD l j 0)) same (heard .notes few))
 
-  pub hearing-passed : trayRefusal s b n ≡ cond (listsFit (view s) (entries b)) 0 8
-  hearing-passed = tests-left k ∙ rw (sent, fits)
+    pub hearing-passed : trayRefusal s b n ≡ cond (listsFit (view s) (entries b)) 0 8
+    hearing-passed = tests-left k ∙ rw (sent, fits)
 
-  -- what is promised of its step is promised of the tray
-  pub hearing-promised : {before after : List ℕ} {a : Answer}
-      → Promise (cond (listsFit (view (heardState s all)) (entries b)) 0 8) (next (view (heardState s all)) (entries b)) (heardState s all) before a after
-      → Promise (trayRefusal s b n) (next (view s) (entries b)) (heardState s all) before a after
-  hearing-promised p = rw hearing-passed (rw (more-next s (entries b) all (k .sound) list) at p)
+    -- what is promised of its step is promised of the tray
+    pub hearing-promised : {before after : List ℕ} {a : Answer}
+        → Promise (cond (listsFit (view (heardState s all)) (entries b)) 0 8) (next (view (heardState s all)) (entries b)) (heardState s all) before a after
+        → Promise (trayRefusal s b n) (next (view s) (entries b)) (heardState s all) before a after
+    hearing-promised p = rw hearing-passed (rw (more-next s (entries b) all (k .sound) list) at p)

@@ -11,7 +11,8 @@ use mathlib.Core.List.{List, [], map}
 use mathlib.Core.Option.{Option, some, none}
 use lib.Dec.{ltb, eqb}
 use Rattle.wire.specs.Frame.{Content, content, kindOf, kindSaid, bitSaid, saidBy, maxCount}
-use Rattle.wire.specs.Tray.{Entry, firstBytes}
+use Rattle.wire.specs.Found.{Under, nothing, one, several, under}
+use Rattle.wire.specs.Tray.{Entry}
 use Rattle.controller.specs.Lists.{countIf, insertAll}
 use Rattle.controller.specs.State.{View}
 
@@ -27,21 +28,23 @@ frameOf v =
 abbrev pub senders : List Entry → List ℕ
 senders es = map (λ (e : Entry). e .sender) es
 
-abbrev pub readIn : ℕ → Option (List ℕ) → Option Content
-readIn t none = none
-readIn t (some b) = content b t
+-- what one frame reads as; none and several say nothing
+abbrev pub readIn : ℕ → Under → Option Content
+readIn t nothing = none
+readIn t (one b) = content b t
+readIn t several = none
 
 pub record Received : Type 0 where
   pub heard : List ℕ
   pub from : ℕ → Option Content
 
--- "Each sender in the directory becomes heard, even by a void frame. The controller's own last frame counts as received"; from another it has what
--- that one's first entry reads as in the state's round
+-- "Each sender in the directory becomes heard, even by a void frame. The controller's own last frame counts as received"; document 02, A5: "if a
+-- sender's frames in a tray (void ones too ..) differ, it is heard and says nothing; equal copies count once"
 unfoldable pub receive : View → List Entry → Received
 receive v es =
     record {
       heard = insertAll (senders es) (v .rotor .heard);
-      from = λ x. cond (eqb x (v .own)) (some (frameOf v)) (readIn (v .round) (firstBytes x es));
+      from = λ x. cond (eqb x (v .own)) (some (frameOf v)) (readIn (v .round) (under x es));
     }
 
 -- ---- what a received frame says

@@ -1,12 +1,8 @@
 // Frames that are sure to list the same numbers: their bytes are the same. Correct controllers mostly send equal lists, so the tally takes neighbours of
 // this kind as one list.
-ghost use mathlib.Core.Bool.{true};
-ghost use mathlib.Core.Option.{some};
-ghost use mathlib.Core.Path.{_≡_};
 ghost use Prim.Native.Nat.{_≤_, _<_};
 ghost use lib.ListN.{length};
 ghost use Rattle.wire.specs.Lent.{before};
-ghost use Rattle.wire.specs.Tray.{place, bytesAt};
 ghost use Rattle.controller.specs.Work.Alike.{Alike};
 use wire::found::same_frames;
 

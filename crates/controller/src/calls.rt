@@ -155,7 +155,7 @@ fn work_heard(
     }
 }
 
-// Tests 6 to 8. Where all senders are heard, neither 6 nor 7 can be.
+// Tests 6 to 8.
 fn work_checked(
     fields: Fields,
     heard: &mut [u32; MAX_NUMBERS],
@@ -180,12 +180,10 @@ fn work_checked(
         } else {
             refused_in_place(8, fields)
         }
+    } else if senders_fit(tray, fields.own) {
+        refused_in_place(7, fields)
     } else {
-        if senders_fit(tray, fields.own) {
-            refused_in_place(7, fields)
-        } else {
-            refused_in_place(6, fields)
-        }
+        refused_in_place(6, fields)
     }
 }
 

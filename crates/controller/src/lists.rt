@@ -9,7 +9,7 @@ ghost use Rattle.wire.specs.Limits.{maxNumbers};
 ghost use Rattle.wire.specs.Numbers.{stored, listed};
 ghost use Rattle.controller.specs.Lists.{mem, Rising};
 ghost use Rattle.controller.specs.State.{soundList};
-ghost use Rattle.controller.specs.Work.Lists.{inPlaces, below, insertedAt};
+ghost use Rattle.controller.specs.Work.Lists.{inPlaces, below, insertedAt, opened};
 use wire::frame::Numbers;
 use wire::limits::MAX_NUMBERS;
 
@@ -84,10 +84,10 @@ pub(crate) fn has(at: &[u32; MAX_NUMBERS], len: usize, x: u32) -> bool
     has_at(at, len, i, x)
 }
 
-// Puts `x` in at place `to`, the numbers from there on one place further.
-pub(crate) fn insert_at(at: &mut [u32; MAX_NUMBERS], len: usize, to: usize, x: u32)
-    requires { ⌜ (soundList (inPlaces len (now at)) ≡ true) × (to ≤ len) × (len < maxNumbers) ⌝ }
-    ensures { λ r. ⌜ inPlaces (len + 1) (after at) ≡ stored (insertedAt to x (listed (inPlaces len (before at)))) ⌝ }
+// Puts `x` in at place `to`, what stands from there on, up to `len`, one place further.
+pub(crate) fn open_at(at: &mut [u32; MAX_NUMBERS], len: usize, to: usize, x: u32)
+    requires { ⌜ (length (now at) ≡ maxNumbers) × (to ≤ len) × (len < maxNumbers) ⌝ }
+    ensures { λ r. ⌜ after at ≡ opened to x len (before at) ⌝ }
 {
     let mut i = len;
     while to < i {
@@ -95,4 +95,12 @@ pub(crate) fn insert_at(at: &mut [u32; MAX_NUMBERS], len: usize, to: usize, x: u
         i -= 1;
     }
     at[to] = x;
+}
+
+// Puts `x` into a list, at place `to`.
+pub(crate) fn insert_at(at: &mut [u32; MAX_NUMBERS], len: usize, to: usize, x: u32)
+    requires { ⌜ (soundList (inPlaces len (now at)) ≡ true) × (to ≤ len) × (len < maxNumbers) ⌝ }
+    ensures { λ r. ⌜ inPlaces (len + 1) (after at) ≡ stored (insertedAt to x (listed (inPlaces len (before at)))) ⌝ }
+{
+    open_at(at, len, to, x);
 }

@@ -8,10 +8,10 @@ ghost use lib.ListN.{length, getD, take};
 ghost use Rattle.wire.specs.Lent.{before, after};
 ghost use Rattle.wire.specs.Frame.{content};
 ghost use Rattle.wire.specs.Limits.{maxNumbers};
-ghost use Rattle.wire.specs.Tray.{place, bytesAt};
 ghost use Rattle.wire.specs.Words.{wordsAt};
 ghost use Rattle.controller.specs.Fields.{stateOf};
 ghost use Rattle.controller.specs.Received.{readIn, listIn};
+ghost use Rattle.controller.specs.Work.Received.{noted};
 ghost use Rattle.controller.specs.Work.Opened.{listUnder, endMark, listFrom, Lies, SpanOf, Openable, OpensAll, AddsTo, Openings, OwnFirst, SpanIn, NumbersIn, startLimit};
 use crate::alike::alike;
 use crate::received::sent_count;
@@ -48,9 +48,9 @@ fn list_count(bytes: &[u8], round: u32) -> usize
     }
 }
 
-// The list of an entry's frame; an empty one where the frame is void or there is no such entry.
+// The list of the frame that a note is of; an empty one where the frame is void or there is not one.
 fn list_of(tray: &[u8], note: u32, round: u32) -> Span
-    ensures { λ r. ⌜ SpanOf (before tray) (listIn (readIn round (bytesAt (before tray) (place (before tray) entry))))
+    ensures { λ r. ⌜ SpanOf (before tray) (listIn (readIn round (noted (before tray) note)))
         (r .start) (r .count) ⌝ }
 {
     let found = found_by(note);
@@ -130,7 +130,7 @@ fn open_list(
     len + 1
 }
 
-// Opens the list received under the number `x`, whose first entry is `entry`, and which `weight` controllers sent.
+// Opens the list received under the number `x`, with the note on it, and which `weight` controllers sent.
 fn open_received(
     fields: Fields,
     own: &[u32],
@@ -144,7 +144,7 @@ fn open_received(
     len: usize,
 ) -> usize
     requires { ⌜ Openings (now own) (now starts) (now counts) (now sent) len weight × OwnFirst fields (now counts) ⌝ }
-    ensures { λ r. ⌜ AddsTo own tray (listUnder fields (before own) (before tray) x entry) weight len starts counts sent r ⌝ }
+    ensures { λ r. ⌜ AddsTo own tray (listUnder fields (before own) (before tray) x note) weight len starts counts sent r ⌝ }
 {
     if x == fields.own {
         sent[0] += weight;

@@ -1,20 +1,22 @@
 // What is received in a round: who is heard, and what the frame under each heard number says.
-ghost use mathlib.Core.Bool.{true, not, cond, _&&_};
+ghost use mathlib.Core.Bool.{true, cond};
 ghost use mathlib.Core.Path.{_≡_};
 ghost use Prim.Native.Nat.{_≤_};
 ghost use lib.Dec.{eqb};
+ghost use lib.ListN.{replicate};
 ghost use Rattle.wire.specs.Lent.{before, after};
 ghost use Rattle.wire.specs.Frame.{content, kindOf, bitIn};
 ghost use Rattle.wire.specs.Limits.{maxNumbers};
 ghost use Rattle.wire.specs.Numbers.{listed};
-ghost use Rattle.wire.specs.Tray.{wellFormed, entries, place, bytesAt};
-ghost use Rattle.controller.specs.Lists.{In, mem, insertAll};
+ghost use Rattle.wire.specs.Found.{noFrame};
+ghost use Rattle.wire.specs.Tray.{wellFormed, entries};
 ghost use Rattle.controller.specs.State.{soundList};
 ghost use Rattle.controller.specs.Received.{senders, readIn};
-ghost use Rattle.controller.specs.Work.Received.{receivedBy, Hears, Finds, bitUnder, CountsBits, NoEntries, WhereReady, sentCount, CountsFew};
+ghost use Rattle.controller.specs.Work.Received.{noted, othersOnly, receivedBy, Hears, bitUnder, CountsBits, WhereReady, sentCount, CountsFew};
 ghost use Rattle.controller.specs.Work.Lists.{inPlaces};
 use crate::lists::has_at;
 use crate::lists::insert_at;
+use crate::lists::open_at;
 use crate::lists::place_near;
 use crate::state::Fields;
 use wire::found::Found;
@@ -34,7 +36,7 @@ use wire::tray::part_of;
 // Whether no sender in the directory is 0 or the own number.
 pub(crate) fn senders_fit(tray: &[u8], own: u32) -> bool
     requires { ⌜ wellFormed (now tray) ≡ true ⌝ }
-    ensures { λ r. ⌜ r ≡ (not (mem 0 (senders (entries (before tray)))) && not (mem own (senders (entries (before tray))))) ⌝ }
+    ensures { λ r. ⌜ r ≡ othersOnly own (senders (entries (before tray))) ⌝ }
 {
     let count = entry_count(tray);
     let mut i = 0;
@@ -51,13 +53,21 @@ pub(crate) fn senders_fit(tray: &[u8], own: u32) -> bool
     true
 }
 
+// One more than can be heard.
+const TOO_MANY: usize = 65;
+
+// Puts the directory's senders into heard, makes a note on the frames of each, and returns how many are heard: 65 where that would be more than 64, or a
+// sender does not fit. It goes from the directory's end to its front, so that of equal copies the first is kept.
 pub(crate) fn hear(
     tray: &[u8],
     own: u32,
     heard: &mut [u32; MAX_NUMBERS],
     len: usize,
     notes: &mut [u32; MAX_NUMBERS],
-) -> usize {
+) -> usize
+    requires { ⌜ (wellFormed (now tray) ≡ true) × (soundList (inPlaces len (now heard)) ≡ true) × (now notes ≡ replicate maxNumbers noFrame) ⌝ }
+    ensures { λ r. ⌜ Hears own (before tray) (listed (inPlaces len (before heard))) r (after heard) (after notes) ⌝ }
+{
     let mut n = len;
     let mut next = 0;
     let mut i = entry_count(tray);
@@ -65,29 +75,28 @@ pub(crate) fn hear(
         i -= 1;
         let x = entry_sender(tray, i);
         if x == own {
-            return MAX_NUMBERS + 1;
+            return TOO_MANY;
         }
         let j = place_near(heard, n, x, next);
         if has_at(heard, n, j, x) {
             notes[j] = note_with(tray, notes[j], entry_place(tray, i));
         } else {
             if x == 0 {
-                return MAX_NUMBERS + 1;
+                return TOO_MANY;
             }
-            if n < MAX_NUMBERS {
-                insert_at(heard, n, j, x);
-                insert_at(notes, n, j, entry_place(tray, i));
-                n += 1;
-            } else {
-                return MAX_NUMBERS + 1;
+            if MAX_NUMBERS <= n {
+                return TOO_MANY;
             }
+            insert_at(heard, n, j, x);
+            open_at(notes, n, j, entry_place(tray, i));
+            n += 1;
         }
         next = (j + MAX_NUMBERS - 1) % MAX_NUMBERS;
     }
     n
 }
 
-// In the place of a bit, for bytes that are void and for an entry that is not there. No frame says it.
+// In the place of a bit, for bytes that are void and where there is not one frame. No frame says it.
 const NOTHING_SAID: u8 = 3;
 
 // The bit that bytes say in a round.
@@ -103,9 +112,9 @@ pub(crate) fn frame_bit(bytes: &[u8], round: u32) -> u8
     }
 }
 
-// The bit of an entry's frame, read in a round.
-fn entry_bit(tray: &[u8], note: u32, round: u32) -> u8
-    ensures { λ r. ⌜ r ≡ bitIn (readIn round (bytesAt (before tray) (place (before tray) entry))) ⌝ }
+// The bit of the frame that a note is of, read in a round.
+fn noted_bit(tray: &[u8], note: u32, round: u32) -> u8
+    ensures { λ r. ⌜ r ≡ bitIn (readIn round (noted (before tray) note)) ⌝ }
 {
     let found = found_by(note);
     let Found::At(offset, len) = found else {
@@ -114,14 +123,14 @@ fn entry_bit(tray: &[u8], note: u32, round: u32) -> u8
     frame_bit(part_of(tray, offset, len), round)
 }
 
-// The bit of the frame received under the number `x`, if `entry` is its first entry; 3 where it is void.
+// The bit of the frame received under the number `x`, with the note on it; 3 where it is void or there is not one.
 pub(crate) fn received_bit(own: u32, round: u32, said: u8, tray: &[u8], x: u32, note: u32) -> u8
-    ensures { λ r. ⌜ r ≡ bitUnder own round said (before tray) x entry ⌝ }
+    ensures { λ r. ⌜ r ≡ bitUnder own round said (before tray) x note ⌝ }
 {
     if x == own {
         said
     } else {
-        entry_bit(tray, note, round)
+        noted_bit(tray, note, round)
     }
 }
 

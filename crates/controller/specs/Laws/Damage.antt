@@ -12,9 +12,10 @@ use lib.ListN.{length}
 use lib.Seq.{map-set-same}
 use Rattle.wire.specs.Frame.{Content, content}
 use Rattle.wire.specs.Refusal.{firstFailed}
-use Rattle.wire.specs.Tray.{Entry, wellFormed, roundOf, entryCount, lengthOf, sender, entries, firstBytes, overwritten}
+use Rattle.wire.specs.Found.{Under, one, several, under}
+use Rattle.wire.specs.Tray.{Entry, wellFormed, roundOf, entryCount, lengthOf, sender, entries, overwritten}
 use Rattle.wire.specs.Laws.Tray.{entry-at}
-use Rattle.wire.specs.Laws.Damage.{overwritten-packed, overwritten-round, overwritten-entries, overwritten-first}
+use Rattle.wire.specs.Laws.Damage.{overwritten-packed, overwritten-round, overwritten-entries, overwritten-under}
 use Rattle.controller.specs.Lists.{Rising, mem}
 use Rattle.controller.specs.Thirds.{third, twoThirds}
 use Rattle.controller.specs.State.{View, Rotor, view, sound}
@@ -158,17 +159,19 @@ damaged-refusal s b b′ n h d r =
 
 -- ---- damaged bytes
 
--- where the bytes that count of x are as before or void, the frame had from x is as before or none; the own frame comes from no tray
+-- a number whose frame is not had: the own one has its own frame
+fewer : (t : Bool) (o r : Option Content) → (cond t o none ≡ cond t o r) ⊎ (cond t o none ≡ none)
+fewer true o r = inl refl
+fewer false o r = inr refl
+
+-- where there is under x what there was, or one void frame, or several, the frame had from x is as before or none; the own frame comes from no tray
 received-damaged : (v : View) (new : List ℕ) (es es′ : List Entry) (x : ℕ) → content new (v .round) ≡ none
-    → (firstBytes x es′ ≡ firstBytes x es) ⊎ (firstBytes x es′ ≡ some new)
+    → (under x es′ ≡ under x es) ⊎ ((under x es′ ≡ one new) ⊎ (under x es′ ≡ several))
     → ((receive v es′) .from x ≡ (receive v es) .from x) ⊎ ((receive v es′) .from x ≡ none)
 unfolding receive
 received-damaged v new es es′ x void (inl e) = inl (rw e)
-received-damaged v new es es′ x void (inr e) = rw (e, void) (pick (eqb x (v .own)) (some (frameOf v)) (readIn (v .round) (firstBytes x es)))
-  where
-    pick : (t : Bool) (o r : Option Content) → (cond t o none ≡ cond t o r) ⊎ (cond t o none ≡ none)
-    pick true o r = inl refl
-    pick false o r = inr refl
+received-damaged v new es es′ x void (inr (inl e)) = rw (e, void) (fewer (eqb x (v .own)) (some (frameOf v)) (readIn (v .round) (under x es)))
+received-damaged v new es es′ x void (inr (inr e)) = rw e (fewer (eqb x (v .own)) (some (frameOf v)) (readIn (v .round) (under x es)))
 
 -- a frame of a well packed tray overwritten by as many bytes that are void in the state's round
 module _ (s : State) (b : List ℕ) (i : ℕ) (new : List ℕ) (packed : wellFormed b ≡ true) (counted : i < entryCount b)
@@ -185,7 +188,7 @@ module _ (s : State) (b : List ℕ) (i : ℕ) (new : List ℕ) (packed : wellFor
         packed = overwritten-packed b i new packed counted as-many;
         round = overwritten-round b i new packed counted as-many;
         same-senders = overwritten-senders;
-        frames = λ x. received-damaged (view s) new (entries b) (entries (overwritten b i new)) x void (overwritten-first b i new packed counted as-many x);
+        frames = λ x. received-damaged (view s) new (entries b) (entries (overwritten b i new)) x void (overwritten-under b i new packed counted as-many x);
       }
 
   -- demand 1's last sentence, of bytes: where the tray is worked, so is the damaged one

@@ -14,7 +14,9 @@ use Rattle.wire.specs.Frame.{Content, content, kindOf, kindSaid, bitSaid, bitIn
 use Rattle.wire.specs.Laws.Frame.{kind-range, said-kind, said-bit, said-allowed, said-bound, writable-gives, reads-written, read-kind, read-writable}
 use Rattle.wire.specs.Limits.{maxNumbers, lastRound}
 use Rattle.wire.specs.Numbers.{rising}
-use Rattle.wire.specs.Tray.{Entry, entryCount, sender, entriesFrom, entries, firstBytes}
+use Rattle.wire.specs.Found.{Under, nothing, one, several, under}
+use Rattle.wire.specs.Laws.Found.{under-nothing}
+use Rattle.wire.specs.Tray.{Entry, entryCount, sender, entriesFrom, entries}
 use Rattle.controller.specs.Lists.{In, Rising}
 use Rattle.controller.specs.State.{View}
 use Rattle.controller.specs.Received.{frameOf, senders, readIn, receive, says, opinionIn, listIn}
@@ -58,19 +60,15 @@ pub received-own : (v : View) (es : List Entry) → (receive v es) .from (v .own
 unfolding receive
 received-own v es = rw (eq-eqb (v .own) (v .own) refl)
 
-pub received-other : (v : View) (es : List Entry) (x : ℕ) → x ≢ v .own → (receive v es) .from x ≡ readIn (v .round) (firstBytes x es)
+pub received-other : (v : View) (es : List Entry) (x : ℕ) → x ≢ v .own → (receive v es) .from x ≡ readIn (v .round) (under x es)
 unfolding receive
 received-other v es x h = rw (ne-eqb x (v .own) h)
 
 -- one that is not heard is not oneself and has no entry
-first-none : (x : ℕ) (es : List Entry) → (¬ In x (senders es)) → firstBytes x es ≡ none
-first-none x [] out = refl
-first-none x (e ∷ es) out = rw (ne-eqb (e .sender) x (λ q. out (List·Memᴰ·head (sym q)))) (first-none x es (λ i. out (List·Memᴰ·tail i)))
-
 pub unheard-received : (v : View) (es : List Entry) → Sound v → (x : ℕ) → (¬ In x ((receive v es) .heard)) → (receive v es) .from x ≡ none
 unheard-received v es h x out =
     let other : x ≢ v .own = λ e. out (heard-in v es .1 (inr (Memᴰ·cast e (h .hears-itself)))) in
-    received-other v es x other ∙ rw (first-none x es (λ i. out (heard-in v es .1 (inl i))))
+    received-other v es x other ∙ rw (under-nothing x es (λ i. out (heard-in v es .1 (inl i))))
 
 -- ---- the frame of a sound state
 
@@ -127,17 +125,18 @@ frame-list v = refl
 
 -- ---- what is received is allowed
 
-read-allowed : (t : ℕ) (b : Option (List ℕ)) (c : Content) → readIn t b ≡ some c → writable c ≡ true
-read-allowed t none c e = let z : _≡_ {A = ℕ} 0 1 = cc in absurd (omega arith)
-read-allowed t (some b) c e = read-writable b t c e
+read-allowed : (t : ℕ) (u : Under) (c : Content) → readIn t u ≡ some c → writable c ≡ true
+read-allowed t nothing c e = let z : _≡_ {A = ℕ} 0 1 = cc in absurd (omega arith)
+read-allowed t (one b) c e = read-writable b t c e
+read-allowed t several c e = let z : _≡_ {A = ℕ} 0 1 = cc in absurd (omega arith)
 
 pub received-allowed : (v : View) (es : List Entry) → Sound v → (x : ℕ) (c : Content) → (receive v es) .from x ≡ some c → writable c ≡ true
 unfolding receive
 received-allowed v es h x c = pick (eqb x (v .own))
   where
-    pick : (t : Bool) → cond t (some (frameOf v)) (readIn (v .round) (firstBytes x es)) ≡ some c → writable c ≡ true
+    pick : (t : Bool) → cond t (some (frameOf v)) (readIn (v .round) (under x es)) ≡ some c → writable c ≡ true
     pick true e = let same : frameOf v ≡ c = cc in rw same at (frame-writable v h)
-    pick false e = read-allowed (v .round) (firstBytes x es) c e
+    pick false e = read-allowed (v .round) (under x es) c e
 
 list-positive : (o : Option Content) → ((c : Content) → o ≡ some c → writable c ≡ true) → (y : ℕ) → In y (listIn o) → 0 < y
 list-positive none allowed y i = absurd (List·Memᴰ·not-nil i)
@@ -149,17 +148,18 @@ received-positive v es h x = list-positive ((receive v es) .from x) (received-al
 
 -- ---- the bit of what is received tells what it says, since its kind is the round's
 
-read-of-kind : (t : ℕ) (b : Option (List ℕ)) (c : Content) → readIn t b ≡ some c → kindSaid (c .said) ≡ kindOf t
-read-of-kind t none c e = let z : _≡_ {A = ℕ} 0 1 = cc in absurd (omega arith)
-read-of-kind t (some b) c e = read-kind b t c e
+read-of-kind : (t : ℕ) (u : Under) (c : Content) → readIn t u ≡ some c → kindSaid (c .said) ≡ kindOf t
+read-of-kind t nothing c e = let z : _≡_ {A = ℕ} 0 1 = cc in absurd (omega arith)
+read-of-kind t (one b) c e = read-kind b t c e
+read-of-kind t several c e = let z : _≡_ {A = ℕ} 0 1 = cc in absurd (omega arith)
 
 received-kind : (v : View) (es : List Entry) (x : ℕ) (c : Content) → (receive v es) .from x ≡ some c → kindSaid (c .said) ≡ kindOf (v .round)
 unfolding receive
 received-kind v es x c = pick (eqb x (v .own))
   where
-    pick : (t : Bool) → cond t (some (frameOf v)) (readIn (v .round) (firstBytes x es)) ≡ some c → kindSaid (c .said) ≡ kindOf (v .round)
+    pick : (t : Bool) → cond t (some (frameOf v)) (readIn (v .round) (under x es)) ≡ some c → kindSaid (c .said) ≡ kindOf (v .round)
     pick true e = let same : frameOf v ≡ c = cc in rw same at (frame-kind v)
-    pick false e = read-of-kind (v .round) (firstBytes x es) c e
+    pick false e = read-of-kind (v .round) (under x es) c e
 
 -- the bit under the own number, or of a frame that was read
 pub bit-under : (v : View) → Sound v → (t : Bool) (o : Option Content) → cond t (v .bit .said) (bitIn o) ≡ bitIn (cond t (some (frameOf v)) o)

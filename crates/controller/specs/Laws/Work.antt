@@ -2,6 +2,7 @@
 pub mod Calls
 pub mod Grow
 pub mod Heads
+pub mod Hears
 pub mod Lists
 pub mod Opened
 pub mod Ready

@@ -12,7 +12,7 @@
 --     Adds w b l k m .. r        the list l, which k controllers sent, is counted with the own one, or opened behind the m open ones; r are open
 --                                then; AddsTo, the same of lent lists
 --     OwnFirst f n               the own list comes first, n has how many numbers it has
---     listUnder f e b x i        the list received under x, with its first entry i, where f are the state's fields and e the places of its echoes
+--     listUnder f e b x k        the list received under x, with the note k on it, where f are the state's fields and e the places of its echoes
 --     Openable f h e b t ..      what opening finds: a state that is ready for the tray b, and room
 --     OpensAll v b s n c m       the m open lists count each number as the lists that the state v receives do
 use Prim.Native.Nat.{ℕ, zero, suc, _+_, _*_, _<_, _≤_}
@@ -25,14 +25,13 @@ use lib.ListN.{length, getD, take, set}
 use Rattle.wire.specs.Lent.{before, after}
 use Rattle.wire.specs.Limits.{maxNumbers}
 use Rattle.wire.specs.Numbers.{listed}
-use Rattle.wire.specs.Tray.{place, bytesAt}
 use Rattle.wire.specs.Frame.{kindOf, maxCount}
 use Rattle.wire.specs.Words.{wordsAt}
 use Rattle.controller.specs.Lists.{In, mem, Rising}
 use Rattle.controller.specs.Received.{readIn, listIn, lists}
 use Rattle.controller.specs.Fields.{Lent, stateOf}
 use Rattle.controller.specs.Rotation.{tally}
-use Rattle.controller.specs.Work.Received.{receivedBy, Ready, sentCount}
+use Rattle.controller.specs.Work.Received.{noted, receivedBy, Ready, sentCount}
 use Rattle.controller.specs.declared.opened.Span.{Span}
 use Rattle.controller.specs.declared.state.Fields.{Fields}
 use Rattle.controller.specs.declared.state.State.{State}
@@ -127,9 +126,9 @@ abbrev pub OwnFirst : Fields → List ℕ → Type 0
 OwnFirst f n = (getD n 0 0 ≡ sentCount f) × (sentCount f ≤ maxNumbers)
 
 abbrev pub listUnder : Fields → List ℕ → List ℕ → ℕ → ℕ → List ℕ
-listUnder f e b x i =
+listUnder f e b x k =
     cond (eqb x (f .own)) (cond (ltb 0 (maxCount (kindOf (f .round)))) (listed (record { len = f .echoes; at = e })) [])
-    (listIn (readIn (f .round) (bytesAt b (place b i))))
+    (listIn (readIn (f .round) (noted b k)))
 
 pub record Openable (f : Fields) (h e b t s n w : List ℕ) : Type 0 where
   pub candidates : List ℕ

@@ -73,6 +73,16 @@ same-or-apart a b = pick (sameBytes a b) refl (sameBytes b a) refl
     pick false e true f = inl (sym (same-is b a f))
     pick false e false f = inr (record { there = e; back = f })
 
+-- frames that are the same mean the same
+pub same-meaning : (s : List ℕ) (f g : Found) → sameAt s f g ≡ true → meaning s f ≡ meaning s g
+same-meaning s (At o n) (At p m) e =
+    let inside = leb (o + n) (length s) && leb (p + m) (length s) in
+    ap one (same-is (part s o n) (part s p m) (and-eq-true-iff inside (sameBytes (part s o n) (part s p m)) .0 e .1))
+same-meaning s (At o n) Nothing e = absurd (true≢false (sym e))
+same-meaning s (At o n) Several e = absurd (true≢false (sym e))
+same-meaning s Nothing g e = absurd (true≢false (sym e))
+same-meaning s Several g e = absurd (true≢false (sym e))
+
 -- ---- one entry more
 
 -- what there is with one frame more in front
@@ -254,6 +264,12 @@ module _ (s : List ℕ) (packed : wellFormed s ≡ true) (bytes : Below 256 s) w
   pub note-found : (x : ℕ) → foundBy (noteFrom s x (entryCount s) 0) ≡ found s x
   unfolding entries
   note-found x = notes-found x (entryCount s) 0 (omega arith)
+
+-- no entry is under the number, so there is no note
+pub note-none : (s : List ℕ) (x n i : ℕ) → (¬ List·Memᴰ x (map (λ (e : Entry). e .sender) (entriesFrom s n i))) → noteFrom s x n i ≡ noFrame
+note-none s x zero i out = refl
+note-none s x (suc n) i out =
+    rw (ne-eqb (sender s i) x (λ q. out (List·Memᴰ·head (sym q)))) (note-none s x n (i + 1) (λ j. out (List·Memᴰ·tail j)))
 
 -- ---- which entries there are
 

@@ -1,14 +1,16 @@
 -- `controller::alike::alike` meets its contract: each place passed has the bytes of the first, and neither it nor the first is the own number's.
 use Prim.Native.Nat.{ℕ, _-_, _≤_, _<_}
 use mathlib.Core.Logic.{_≢_}
-use mathlib.Core.Path.{_≡_, sym}
+use mathlib.Core.Path.{_≡_, sym, _∙_}
 use native.Mathlib.Decide.{ℕ-discrete}
 use native.Mathlib.Omega.{arith}
 use borrow.Author.Needs.{needs}
 use denote.Ref.{now}
 use lib.ListN.{getD}
-use Rattle.wire.specs.Tray.{place, bytesAt}
+use Rattle.wire.specs.Found.{foundBy}
+use Rattle.wire.specs.Laws.Found.{same-meaning}
 use Rattle.controller.specs.Work.Alike.{Alike}
+use Rattle.controller.specs.Work.Received.{noted}
 use Rattle.controller.proofs.alike.alike.Statement.{statement}
 use Rattle.controller.proofs.alike.alike.Tie as tie
 
@@ -17,7 +19,7 @@ Inv-loop own tray heard len notes j i₀ i =
     (j < i)
     × (i ≤ len)
     × ((k : ℕ) → j < k → k < i
-    → (getD heard k 0 ≢ own) × (bytesAt tray (place tray (getD notes k 0)) ≡ bytesAt tray (place tray (getD notes j 0))))
+    → (getD heard k 0 ≢ own) × (noted tray (getD notes k 0) ≡ noted tray (getD notes j 0)))
 
 abbrev μ-loop : tie.MeasureT-loop
 μ-loop own tray heard len notes j i₀ i = len - i
@@ -29,7 +31,7 @@ given c = c .before .before .before .before
 abbrev turn : tie.Else2 Inv-loop μ-loop → tie.At-loop Inv-loop μ-loop
 turn c = c .before .before .before
 
-abbrev compared : tie.After-same-entry Inv-loop μ-loop → tie.Else2 Inv-loop μ-loop
+abbrev compared : tie.After-same-frames Inv-loop μ-loop → tie.Else2 Inv-loop μ-loop
 compared c = c .before .before .before
 
 abbrev outside : tie.At-loop Inv-loop μ-loop → tie.Start Inv-loop μ-loop
@@ -74,20 +76,20 @@ sub-result c = search needs
 returns-2 : tie.Need-returns-2 Inv-loop μ-loop
 returns-2 c = so-far (c .before .before .before)
 
-mul-same-entry : tie.Need-mul-same-entry Inv-loop μ-loop
-mul-same-entry c = search needs
+mul-same-frames : tie.Need-mul-same-frames Inv-loop μ-loop
+mul-same-frames c = search needs
 
-shared-slice-read-same-entry : tie.Need-shared-slice-read-same-entry Inv-loop μ-loop
-shared-slice-read-same-entry c = search needs
+shared-slice-read-same-frames : tie.Need-shared-slice-read-same-frames Inv-loop μ-loop
+shared-slice-read-same-frames c = search needs
 
-mul-same-entry-2 : tie.Need-mul-same-entry-2 Inv-loop μ-loop
-mul-same-entry-2 c = search needs
+mul-same-frames-2 : tie.Need-mul-same-frames-2 Inv-loop μ-loop
+mul-same-frames-2 c = search needs
 
-shared-slice-read-same-entry-2 : tie.Need-shared-slice-read-same-entry-2 Inv-loop μ-loop
-shared-slice-read-same-entry-2 c = search needs
+shared-slice-read-same-frames-2 : tie.Need-shared-slice-read-same-frames-2 Inv-loop μ-loop
+shared-slice-read-same-frames-2 c = search needs
 
-same-entry-requires : tie.Need-same-entry-requires Inv-loop μ-loop
-same-entry-requires c κs = search needs
+same-frames-requires : tie.Need-same-frames-requires Inv-loop μ-loop
+same-frames-requires c κs = search needs
 
 add-i-2 : tie.Need-add-i-2 Inv-loop μ-loop
 add-i-2 c = search needs
@@ -99,7 +101,9 @@ loop-again : tie.Need-loop-again Inv-loop μ-loop
 loop-again c =
     let v = turn (compared (c .before)) .loop in
     let here = compared (c .before) .if2 .left in
-    let same = c .before .same-entry .ensures (c .if3 .taken) in (
+    let a = outside (turn (compared (c .before))) .args in
+    let same = same-meaning (now (a .tray)) (foundBy (getD (now (a .notes)) (a .j) 0)) (foundBy (getD (now (a .notes)) (v .i) 0))
+    (sym (c .before .same-frames .ensures) ∙ c .if3 .taken) in (
       search needs,
       search needs,
       λ k l u. elim (ℕ-discrete k (v .i)) [ yes e ↦ rw e (here, sym same) | no d ↦ v .inv .2 k l (omega arith) ],
@@ -132,11 +136,11 @@ alike-spec =
     shared-slice-read-if2
     sub-result
     returns-2
-    mul-same-entry
-    shared-slice-read-same-entry
-    mul-same-entry-2
-    shared-slice-read-same-entry-2
-    same-entry-requires
+    mul-same-frames
+    shared-slice-read-same-frames
+    mul-same-frames-2
+    shared-slice-read-same-frames-2
+    same-frames-requires
     add-i-2
     loop-less
     loop-again

@@ -1,68 +1,135 @@
--- `controller::calls::work_checked` meets its contract: where all senders are heard the step has the last test;
--- else `work_new_senders` has the tests that are left.
-use mathlib.Core.Path.{_∙_}
+-- `controller::calls::work_checked` meets its contract: the step is that of the state which has heard all senders, and that is the step of the state before;
+-- where it is not taken, a sender that does not fit gives 6, and too many heard give 7.
+use Prim.Native.Nat.{ℕ}
+use mathlib.Core.Bool.{Bool, true, false, cond, _&&_}
+use mathlib.Core.List.{List}
+use mathlib.Core.Path.{_≡_, refl, sym, ap, _∙_}
 use borrow.Author.Needs.{needs}
-use lib.ListN.{getD-replicate}
+use borrow.Author.Tests.{lt-leb}
+use denote.Ref.{now}
+use Rattle.controller.specs.Calls.{Promise}
+use Rattle.controller.specs.Fields.{stateOf, answerOf}
 use Rattle.controller.specs.Laws.State.{sound-heard}
-use Rattle.controller.proofs.Heard.{known-ready, known-promised}
+use Rattle.controller.specs.Refusals.{sendersFit, heardFit, listsFit}
+use Rattle.controller.specs.State.{View, view}
+use Rattle.controller.specs.declared.state.Answer.{Answer}
+use Rattle.controller.specs.declared.state.Fields.{Fields}
+use Rattle.controller.specs.declared.state.State.{State}
+use Rattle.controller.specs.declared.state.Worked.{Worked}
+use Rattle.wire.specs.Limits.{maxNumbers}
+use Rattle.wire.specs.Tray.{entries}
+use Rattle.controller.proofs.Heard.{hearing-fits, hearing-ready, hearing-passed, hearing-promised}
+use Rattle.controller.proofs.Promises.{promise-refused, promise-left, promise-worked, tests-left}
 use Rattle.controller.proofs.calls.work_checked.Statement.{statement}
 use Rattle.controller.proofs.calls.work_checked.Tie as tie
 
--- the entries counted; all senders known, and the tray worked
-abbrev counted : tie.After-first-entries → tie.After-entry-count
-counted c = c .before .before .before
+-- a refusal under 8 leaves places and buffer, so it can be given with the fields f and the places h of those heard before the tray
+still-left : (t : Bool) {n : ℕ} {v : View} {s : State} {l c e before after : List ℕ} (f : Fields) (h : List ℕ) (u w : Worked)
+    → n ≡ cond t 0 8 → (u .refusal ≡ 0 → ⊥)
+    → Promise n v s before (answerOf u l c e) after → w ≡ record { refusal = 8; fields = f; length = 0 }
+    → Promise n v (stateOf f h (s .candidates .at) (s .echoes .at)) before (answerOf w h c e) after
+still-left true f h u w q z p a = absurd (z (p .number ∙ q))
+still-left false {n} {v} {s} {l} {c} {e} {before} f h u w q z p a =
+    let kept : stateOf (u .fields) l c e ≡ s = rw q at (p .state) in
+    let candidates = ap (λ (t : State). t .candidates .at) kept in
+    let echoes = ap (λ (t : State). t .echoes .at) kept in
+    let same : _≡_ {A = Answer} (answerOf w h c e) (record { refusal = 8; state = stateOf f h (s .candidates .at) (s .echoes .at); length = 0 }) =
+    ap (λ (x : Worked). answerOf x h c e) a ∙ (λ i. record { refusal = 8; state = stateOf f h (candidates i) (echoes i); length = 0 }) in
+    rw (rw q at (p .output)) (promise-refused n 8 v _ before (answerOf w h c e) q refl same)
 
-abbrev known : tie.After-work-heard-arg4 → tie.Then1
-known c = c .before .before .before .before .before
+-- of two tests that do not both hold, the second fails where the first holds
+second-fails : (t u : Bool) → (t && u) ≡ false → t ≡ true → u ≡ false
+second-fails t u both first = rw first at both
 
-abbrev worked : tie.After-slice-known2 → tie.After-work-heard-arg4
-worked c = c .before .before .before
+-- what was given; those heard, few enough; the call of `work_heard`
+abbrev given : tie.After-hear → tie.Start
+given c = c .before .before .before .before .before .before
 
--- what was given
-abbrev given : tie.After-first-entries → tie.Start
-given c = counted c .before .before .before
+abbrev few : tie.After-work-heard-arg3 → tie.Then1
+few c = c .before .before .before .before .before
 
-entry-count-requires : tie.Need-entry-count-requires
-entry-count-requires c κs = search needs
+abbrev called : tie.After-struct-known → tie.After-work-heard
+called c = c .before .before .before
 
-first-entries-requires : tie.Need-first-entries-requires
-first-entries-requires c κs =
-    let count = c .before .before in
-    let pre = count .before .before .before .pre in
-    (pre .packed, sound-heard _ (pre .sound), λ j h. getD-replicate 64 j (count .entry-count .result) 0 h ∙ count .entry-count .ensures)
+abbrev before : tie.After-hear → State
+before c = let a = given c .args in stateOf (a .fields) (now (a .heard)) (now (a .candidates)) (now (a .echoes))
+
+hear-requires : tie.Need-hear-requires
+hear-requires c κs = let pre = c .before .before .before .before .before .pre in (pre .packed, sound-heard _ (pre .sound), refl)
 
 work-heard-requires : tie.Need-work-heard-requires
 work-heard-requires c κs =
-    let at = known c in
+    let at = few c in
     let pre = given (at .before) .pre in
-    (known-ready pre (at .before .first-entries .ensures) (at .if1 .taken), pre .early, pre .room)
+    (hearing-ready pre (at .before .hear .ensures) (at .if1 .taken), pre .early, pre .room)
 
-work-new-senders-requires : tie.Need-work-new-senders-requires
-work-new-senders-requires c κs = search needs
+refused-in-place-requires : tie.Need-refused-in-place-requires
+refused-in-place-requires c κs = search needs
+
+senders-fit-requires : tie.Need-senders-fit-requires
+senders-fit-requires c κs = given (c .before) .pre .packed
+
+refused-in-place-requires-2 : tie.Need-refused-in-place-requires-2
+refused-in-place-requires-2 c κs = search needs
+
+refused-in-place-requires-3 : tie.Need-refused-in-place-requires-3
+refused-in-place-requires-3 c κs = search needs
 
 same-length : tie.Need-same-length
 same-length c = search needs
 
 returns : tie.Need-returns
 returns c =
-    let at = known (worked c) in
-    known-promised (given (at .before) .pre) (at .before .first-entries .ensures) (at .if1 .taken) (c .before .before .work-heard .ensures)
+    let worked = called (c .before) in
+    let at = few (worked .before) in
+    promise-worked _ _ _ _ _ _ _ (c .if2 .taken)
+    (hearing-promised (given (at .before) .pre) (at .before .hear .ensures) (at .if1 .taken) (worked .work-heard .ensures))
 
 same-length-2 : tie.Need-same-length-2
 same-length-2 c = search needs
 
 returns-2 : tie.Need-returns-2
-returns-2 c = search needs
+returns-2 c =
+    let worked = called (c .before .before) in
+    let at = few (worked .before) in
+    let start = given (at .before) in
+    let heard = at .before .hear .ensures in
+    let fits = listsFit (view (before (at .before))) (entries (now (start .args .tray))) in
+    still-left fits (start .args .fields) (now (start .args .heard)) (worked .work-heard .result) (c .refused-in-place .result)
+    (hearing-passed (start .pre) heard (at .if1 .taken)) (c .before .if2 .left)
+    (hearing-promised (start .pre) heard (at .if1 .taken) (worked .work-heard .ensures)) (c .refused-in-place .ensures)
+
+returns-3 : tie.Need-returns-3
+returns-3 c =
+    let asked = c .before .before in
+    let heard = asked .before .before in
+    let start = given heard in
+    let v = view (before heard) in
+    let es = entries (now (start .args .tray)) in
+    let sent : sendersFit v es ≡ true = sym (asked .senders-fit .ensures) ∙ c .before .if3 .taken in
+    let both = sym (hearing-fits (start .pre) (heard .hear .ensures)) ∙ lt-leb (heard .hear .result) maxNumbers (asked .before .if1 .left) in
+    let over : heardFit v es ≡ false = second-fails (sendersFit v es) (heardFit v es) both sent in
+    promise-left _ 7 _ _ _ _ _ _ _ (tests-left (start .pre) ∙ rw (sent, over)) refl (c .refused-in-place2 .ensures)
+
+returns-4 : tie.Need-returns-4
+returns-4 c =
+    let asked = c .before .before in
+    promise-left _ 6 _ _ _ _ _ _ _ (tests-left (given (asked .before .before) .pre) ∙ rw (sym (asked .senders-fit .ensures) ∙ c .before .if3 .left)) refl
+    (c .refused-in-place3 .ensures)
 
 pub work-checked-spec : {M : Type 1} → statement M
 work-checked-spec =
     tie.close
     (tie.spec
-    entry-count-requires
-    first-entries-requires
+    hear-requires
     work-heard-requires
-    work-new-senders-requires
+    refused-in-place-requires
+    senders-fit-requires
+    refused-in-place-requires-2
+    refused-in-place-requires-3
     same-length
     returns
     same-length-2
-    returns-2)
+    returns-2
+    returns-3
+    returns-4)

@@ -1,13 +1,15 @@
--- `controller::opened::list_of` meets its contract: a frame's numbers lie behind its header, in its part of the tray, whose offset is two bytes of the tray.
+-- `controller::opened::list_of` meets its contract: a frame's numbers lie behind its header, in its part of the tray, whose offset is half a word.
 use Prim.Native.Nat.{ℕ, zero, suc, _+_, _*_, _≤_, _<_}
 use mathlib.Core.Bool.{Bool, true, false, cond}
 use mathlib.Core.List.{List, []}
+use mathlib.Core.Logic.{_⊎_, inl, inr}
 use mathlib.Core.Option.{Option, some, none}
 use mathlib.Core.Path.{_≡_, refl, sym, ap, _∙_}
 use native.Mathlib.Decide.{decLt}
 use native.Mathlib.Omega.{arith}
 use borrow.Author.Needs.{needs}
 use borrow.Author.Tests.{leb-true}
+use denote.Enum.Declared.{tagOf}
 use denote.Ref.{now}
 use lib.Dec.{leb}
 use lib.ListN.{length, getD, take, drop, length-take, length-drop}
@@ -15,13 +17,17 @@ use lib.Seq.{getD-take, getD-drop, length-take-le}
 use Rattle.wire.specs.Frame.{Content, content, countOf}
 use Rattle.wire.specs.Laws.Frame.{read-numbers}
 use Rattle.wire.specs.Laws.Words.{words-length}
-use Rattle.wire.specs.Limits.{frameHeader, numberWidth, offsetAt}
-use Rattle.wire.specs.Tray.{entryAt, offsetOf, lengthOf, inDirectory, place, part, bytesAt}
-use Rattle.wire.specs.Words.{wordsAt, Below}
-use Rattle.wire.specs.declared.tray.Found.{Found}
-use Rattle.wire.specs.declared.tray.Found.the-variants.{At, Nothing}
+use Rattle.wire.specs.Limits.{frameHeader, numberWidth}
+use Rattle.wire.proofs.found.Found.{the-type}
+use Rattle.wire.specs.Found.{foundBy, meaning}
+use Rattle.wire.specs.Laws.Found.{found-small}
+use Rattle.wire.specs.Tray.{part}
+use Rattle.wire.specs.Words.{wordsAt}
+use Rattle.wire.specs.declared.found.Found.{Found}
+use Rattle.wire.specs.declared.found.Found.the-variants.{At, Nothing, Several}
 use Rattle.controller.specs.Received.{readIn, listIn}
 use Rattle.controller.specs.Work.Opened.{SpanOf}
+use Rattle.controller.specs.Work.Received.{noted}
 use Rattle.controller.proofs.opened.list_of.Statement.{statement}
 use Rattle.controller.proofs.opened.list_of.Tie as tie
 
@@ -64,25 +70,19 @@ numbers-lie s t n (some c) h e =
     let same : n ≡ countOf s = e ∙ ap length (read .0) ∙ words-length s frameHeader (countOf s) in
     (rw same (sym (read .0)), λ l. omega (arith, same, read .1))
 
--- an offset is two bytes
-abbrev offset : Found → ℕ
-offset (At o n) = o
-offset Nothing = 0
+-- the cases of the `else`
+missing : (b : List ℕ) (t : ℕ) (f : Found) → (tagOf the-type f ≡ 1) ⊎ (tagOf the-type f ≡ 2) → SpanOf b (listIn (readIn t (meaning b f))) 0 0
+missing b t (At o n) (inl e) = absurd (omega arith)
+missing b t (At o n) (inr e) = absurd (omega arith)
+missing b t Nothing h = record { is = refl; low = omega arith; inside = λ k l. absurd (omega arith) }
+missing b t Several h = record { is = refl; low = omega arith; inside = λ k l. absurd (omega arith) }
 
-offset-small : (s : List ℕ) (i : ℕ) → Below 256 s → offset (place s i) < 65536
-unfolding place
-offset-small s i bytes = pick (inDirectory s i)
-  where
-    pick : (t : Bool) → offset (cond t (At (offsetOf s i) (lengthOf s i)) Nothing) < 65536
-    pick true = omega (arith, bytes (entryAt i + offsetAt), bytes (entryAt i + offsetAt + 1))
-    pick false = omega arith
-
-module _ (b : List ℕ) (i t : ℕ) (bytes : Below 256 b) where
-  found : (o n r : ℕ) (s : List ℕ) → place b i ≡ At o n → s ≡ part b o n → r ≡ length (listIn (content s t))
-      → SpanOf b (listIn (readIn t (bytesAt b (place b i)))) (o + 8) r
+module _ (b : List ℕ) (k t : ℕ) (word : k < 4294967296) where
+  found : (o n r : ℕ) (s : List ℕ) → foundBy k ≡ At o n → s ≡ part b o n → r ≡ length (listIn (content s t))
+      → SpanOf b (listIn (readIn t (noted b k))) (o + 8) r
   found o n r s p e read =
       let s-is : part b o n ≡ s = sym e in
-      let low : o < 65536 = rw p at (offset-small b i bytes) in
+      let low : o < 65536 = found-small k o n word p .0 in
       let size = rw s-is at (part-lies b o n) in
       let numbers = numbers-lie s t r (content s t) refl read in
       let lie = numbers .1 in
@@ -96,29 +96,21 @@ module _ (b : List ℕ) (i t : ℕ) (bytes : Below 256 b) where
         inside = λ k h. omega (arith, lie (omega arith), size (omega (arith, lie (omega arith))));
       }
 
-  missing : place b i ≡ Nothing → SpanOf b (listIn (readIn t (bytesAt b (place b i)))) 0 0
-  missing p = record { is = rw p; low = omega arith; inside = λ k h. absurd (omega arith) }
+-- what was given, and where the frame of the note lies
+abbrev given : tie.After-found-by → tie.Start
+given c = c .before .before
 
-tray-bytes : (c : tie.After-entry-place) → Below 256 (now (c .before .before .args .tray))
-tray-bytes c i = let h = c .before .shared-slice-known .given i in omega arith
+lies-at : (c : tie.After-found) → foundBy (given (c .before .before) .args .note) ≡ At (c .found .given .0 .0) (c .found .given .0 .1 .0)
+lies-at c = sym (c .before .before .found-by .ensures) ∙ c .found .given .1
 
--- where the frame of the entry lies
-lies-at : (c : tie.After-found)
-    → let at = c .before .before in
-    let a = at .before .before .args in
-    place (now (a .tray)) (a .entry) ≡ At (c .found .given .0 .0) (c .found .given .0 .1 .0)
-lies-at c = sym (c .before .before .entry-place .ensures) ∙ c .found .given .1
-
-entry-place-requires : tie.Need-entry-place-requires
-entry-place-requires c κs = search needs
+found-by-requires : tie.Need-found-by-requires
+found-by-requires c κs = search needs
 
 enum-known-found : tie.Need-enum-known-found
 enum-known-found c = search needs
 
 add-t8 : tie.Need-add-t8
-add-t8 c =
-    let call = c .before .before .before in
-    omega (arith, ap offset (lies-at (c .before)), offset-small (now (call .before .before .args .tray)) (call .before .before .args .entry) (tray-bytes call))
+add-t8 c = omega (arith, found-small _ _ _ (given (c .before .before .before) .fits .note .fits) (lies-at (c .before)) .0)
 
 part-of-requires : tie.Need-part-of-requires
 part-of-requires c κs = search needs
@@ -126,26 +118,24 @@ part-of-requires c κs = search needs
 list-count-requires : tie.Need-list-count-requires
 list-count-requires c κs = search needs
 
-enum-told : tie.Need-enum-told
-enum-told c = search needs
-
 returns : tie.Need-returns
 returns c =
     let known = c .before .before .before in
-    found _ _ _ (tray-bytes (known .before .before)) _ _ _ _ (lies-at known) (c .before .part-of .ensures) (c .list-count .ensures)
+    found _ _ _ (given (known .before .before) .fits .note .fits) _ _ _ _ (lies-at known) (c .before .part-of .ensures) (c .list-count .ensures)
 
 returns-2 : tie.Need-returns-2
-returns-2 c = missing _ _ _ (tray-bytes (c .before .before)) (sym (c .before .before .entry-place .ensures) ∙ c .enum-told .given .1)
+returns-2 c =
+    let a = given (c .before) .args in
+    missing (now (a .tray)) (a .round) (foundBy (a .note)) (rw (c .before .found-by .ensures) at (c .match .keys2))
 
 pub list-of-spec : {M : Type 1} → statement M
 list-of-spec =
     tie.close
     (tie.spec
-    entry-place-requires
+    found-by-requires
     enum-known-found
     add-t8
     part-of-requires
     list-count-requires
-    enum-told
     returns
     returns-2)

@@ -1,4 +1,4 @@
--- `controller::opened::open_received` meets its contract: under the own number the own list is received, which is open; under another the list of its entry.
+-- `controller::opened::open_received` meets its contract: under the own number the own list is received, which is open; under another the list of its frame.
 use Prim.Native.Nat.{ℕ}
 use mathlib.Core.Bool.{Bool, true, false, cond}
 use mathlib.Core.List.{List, []}
@@ -11,11 +11,10 @@ use denote.Ref.{now}
 use lib.Dec.{ltb}
 use lib.ListN.{take}
 use Rattle.wire.specs.Frame.{kindOf, maxCount}
-use Rattle.wire.specs.Tray.{place, bytesAt}
 use Rattle.wire.specs.Words.{wordsAt}
 use Rattle.controller.specs.Received.{readIn, listIn}
 use Rattle.controller.specs.Work.Opened.{listUnder, SpanOf}
-use Rattle.controller.specs.Work.Received.{sentCount}
+use Rattle.controller.specs.Work.Received.{noted, sentCount}
 use Rattle.controller.specs.declared.state.Fields.{Fields}
 use Rattle.controller.proofs.opened.open_received.Statement.{statement}
 use Rattle.controller.proofs.opened.open_received.Tie as tie
@@ -28,7 +27,7 @@ module _ (f : Fields) (e b : List ℕ) (x i : ℕ) where
       pick true = refl
       pick false = refl
 
-  another : x ≢ f .own → listIn (readIn (f .round) (bytesAt b (place b i))) ≡ listUnder f e b x i
+  another : x ≢ f .own → listIn (readIn (f .round) (noted b i)) ≡ listUnder f e b x i
   another d = rw (ne-eqb x (f .own) d)
 
 -- what lies at a place has the numbers that are read there
@@ -63,7 +62,7 @@ returns c =
     let a = start .args in
     inl (record {
       same =
-          oneself (a .fields) (now (a .own)) (now (a .tray)) (a .x) (a .entry) (c .before .if1 .taken)
+          oneself (a .fields) (now (a .own)) (now (a .tray)) (a .x) (a .note) (c .before .if1 .taken)
           ∙ ap (λ (n : ℕ). take n (now (a .own))) (sym (start .pre .1 .0));
       starts = refl;
       counts = refl;
@@ -94,7 +93,7 @@ returns-2 c =
     let opened = added c in
     let found = asked (opened .before) in
     let a = given (found .before .before) .args in
-    let list = found .list-of .ensures .is ∙ another (a .fields) (now (a .own)) (now (a .tray)) (a .x) (a .entry) (found .before .if1 .left) in
+    let list = found .list-of .ensures .is ∙ another (a .fields) (now (a .own)) (now (a .tray)) (a .x) (a .note) (found .before .if1 .left) in
     rw list at (opened .open-list .ensures)
 
 pub open-received-spec : {M : Type 1} → statement M

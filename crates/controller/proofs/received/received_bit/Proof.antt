@@ -4,14 +4,14 @@ use borrow.Author.Tests.{eq-eqb, ne-eqb}
 use Rattle.controller.proofs.received.received_bit.Statement.{statement}
 use Rattle.controller.proofs.received.received_bit.Tie as tie
 
-entry-bit-requires : tie.Need-entry-bit-requires
-entry-bit-requires c κs = search needs
+noted-bit-requires : tie.Need-noted-bit-requires
+noted-bit-requires c κs = search needs
 
 returns : tie.Need-returns
 returns c = rw (eq-eqb _ _ (c .if1 .taken))
 
 returns-2 : tie.Need-returns-2
-returns-2 c = rw (ne-eqb _ _ (c .before .if1 .left)) (c .entry-bit .ensures)
+returns-2 c = rw (ne-eqb _ _ (c .before .if1 .left)) (c .noted-bit .ensures)
 
 pub received-bit-spec : {M : Type 1} → statement M
-received-bit-spec = tie.close (tie.spec entry-bit-requires returns returns-2)
+received-bit-spec = tie.close (tie.spec noted-bit-requires returns returns-2)

@@ -9,8 +9,8 @@ use native.Mathlib.Omega.{arith}
 use borrow.Author.Tests.{ltb-true, ltb-false, eq-eqb, ne-eqb, lt-ltb, le-ltb}
 use lib.Dec.{eqb, ltb}
 use lib.ListN.{length, getD, set, take, drop, replicate, length-append, length-take, length-drop, List·getD-append}
-use lib.Seq.{take-suc, append-snoc, set-set, set-at, set-split, getD-set-other, getD-take, slice, slice-empty}
-use lib.Seq.{slice-cons, drop-append-add, length-take-le, take-length, drop-length, take-take}
+use lib.Seq.{take-suc, append-snoc, set-set, set-at, set-split, getD-set-other, getD-append-add, getD-take, getD-drop, slice, slice-empty}
+use lib.Seq.{slice-cons, length-slice, drop-append-add, length-take-le, take-length, drop-length, take-take}
 use Rattle.wire.specs.Limits.{maxNumbers}
 use Rattle.wire.specs.Numbers.{stored, listed}
 use Rattle.wire.specs.declared.frame.Numbers.{Numbers}
@@ -84,6 +84,45 @@ inserted-length i x l h = omega (arith, length-append (take i l) (x ∷ drop i l
 -- put in behind the last
 pub inserted-last : (n x : ℕ) (l : List ℕ) → length l ≡ n → insertedAt n x l ≡ l ++ x ∷ []
 inserted-last n x l e = rw (← e, take-length l, drop-length l)
+
+-- what stands in front of place i, at it and behind it, where x is put in there
+module _ (i x : ℕ) (s r : List ℕ) (h : i ≤ length s) where
+  pub put-before : (j : ℕ) → j < i → getD (take i s ++ x ∷ r) j 0 ≡ getD s j 0
+  put-before j l = List·getD-append (take i s) (x ∷ r) 0 j (rw (length-take-le i s h) l) ∙ getD-take i s j 0 l
+
+  put-at : (k : ℕ) → getD (take i s ++ x ∷ r) (i + k) 0 ≡ getD (x ∷ r) k 0
+  put-at k = rw (length-take-le i s h) at (getD-append-add (take i s) (x ∷ r) k 0)
+
+  pub put-here : getD (take i s ++ x ∷ r) i 0 ≡ x
+  put-here = let e : i + 0 ≡ i = omega arith in rw e at (put-at 0)
+
+  pub put-behind : (j : ℕ) → i < j → getD (take i s ++ x ∷ r) j 0 ≡ getD r (j - (i + 1)) 0
+  put-behind j l = let e : i + suc (j - (i + 1)) ≡ j = omega arith in rw e at (put-at (suc (j - (i + 1))))
+
+-- the numbers from place i on stand one place further, in a list and in its places
+pub inserted-behind : (i x : ℕ) (l : List ℕ) (j : ℕ) → i ≤ length l → i < j → getD (insertedAt i x l) j 0 ≡ getD l (j - 1) 0
+inserted-behind i x l j h k = let e : i + (j - (i + 1)) ≡ j - 1 = omega arith in put-behind i x l (drop i l) h j k ∙ getD-drop i l (j - (i + 1)) 0 ∙ rw e
+
+pub opened-behind : (i x n : ℕ) (s : List ℕ) (j : ℕ) → n ≤ length s → i < j → j ≤ n → getD (opened i x n s) j 0 ≡ getD s (j - 1) 0
+opened-behind i x n s j h k l =
+    let e : i + (j - (i + 1)) ≡ j - 1 = omega arith in
+    let short : j - (i + 1) < length (slice i n s) = omega (arith, length-slice i n s h) in
+    put-behind i x s (slice i n s ++ drop (n + 1) s) (omega arith) j k
+    ∙ List·getD-append (slice i n s) (drop (n + 1) s) 0 (j - (i + 1)) short
+    ∙ getD-drop i (take n s) (j - (i + 1)) 0
+    ∙ rw e (getD-take n s (j - 1) 0 (omega arith))
+
+pub opened-length : (i x n : ℕ) (s : List ℕ) → i ≤ n → n < length s → length (opened i x n s) ≡ length s
+opened-length i x n s h k =
+    let behind = slice i n s ++ drop (n + 1) s in
+    omega (
+      arith,
+      length-append (take i s) (x ∷ behind),
+      length-take-le i s (omega arith),
+      length-append (slice i n s) (drop (n + 1) s),
+      length-slice i n s (omega arith),
+      length-drop (n + 1) s,
+    )
 
 -- ---- the places, as the numbers move up one by one
 

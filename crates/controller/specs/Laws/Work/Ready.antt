@@ -13,7 +13,9 @@ use lib.Seq.{getD-take}
 use Rattle.wire.specs.Frame.{kindOf, bitIn}
 use Rattle.wire.specs.Limits.{maxNumbers}
 use Rattle.wire.specs.Numbers.{listed}
-use Rattle.wire.specs.Tray.{entries, place, bytesAt}
+use Rattle.wire.specs.Found.{meaning, under}
+use Rattle.wire.specs.Laws.Found.{found-meaning}
+use Rattle.wire.specs.Tray.{entries}
 use Rattle.wire.specs.declared.frame.Numbers.{Numbers}
 use Rattle.controller.specs.Laws.Lists.{mem-in, mem-out, count-short, rising-place}
 use Rattle.controller.specs.Laws.Received.{unheard-received, bit-under, received-says, received-opinion}
@@ -23,7 +25,7 @@ use Rattle.controller.specs.Lists.{In, mem}
 use Rattle.controller.specs.Received.{readIn, receive, listIn, says, opinionIn, lists}
 use Rattle.controller.specs.State.{view, soundList}
 use Rattle.controller.specs.Work.Lists.{below}
-use Rattle.controller.specs.Work.Received.{receivedBy, Ready, contentUnder, bitUnder}
+use Rattle.controller.specs.Work.Received.{noted, receivedBy, Ready, contentUnder, bitUnder}
 use Rattle.controller.specs.Work.Alike.{Alike}
 use Rattle.controller.specs.declared.state.State.{State}
 
@@ -58,8 +60,9 @@ module _ {s : State} {b f : List ℕ} (ready : Ready s b f) where
   unfolding receive
   ready-content j h =
       let copied : getD (listed (s .heard)) j 0 ≡ getD (s .heard .at) j 0 = getD-take (s .heard .len) (s .heard .at) j 0 h in
-      let first = ready .notes j (omega (arith, h, ready-used)) in
-      rw (copied, first, copied)
+      let x = getD (listed (s .heard)) j 0 in
+      let told : noted b (getD f j 0) ≡ under x (entries b) = ap (meaning b) (ready .notes j (omega (arith, h, ready-used))) ∙ found-meaning b x in
+      rw (copied, told, copied)
 
   pub ready-list : (j : ℕ) → j < s .heard .len → listIn (contentUnder s b (getD (s .heard .at) j 0) (getD f j 0)) ≡ nthList (lists (receivedBy s b)) j
   ready-list j h = ap listIn (ready-content j h) ∙ ap (λ (l : List ℕ). listIn ((receivedBy s b) .from (getD l j 0))) ready-listed
@@ -80,7 +83,7 @@ module _ {s : State} {b f : List ℕ} (ready : Ready s b f) where
   ready-bit : (j : ℕ) → j < s .heard .len
       → bitUnder (s .own) (s .round) (s .said) b (getD (s .heard .at) j 0) (getD f j 0) ≡ bitIn ((receivedBy s b) .from (getD (listed (s .heard)) j 0))
   ready-bit j h =
-      bit-under (view s) (sound-gives s (ready .sound)) (eqb (getD (s .heard .at) j 0) (s .own)) (readIn (s .round) (bytesAt b (place b (getD f j 0))))
+      bit-under (view s) (sound-gives s (ready .sound)) (eqb (getD (s .heard .at) j 0) (s .own)) (readIn (s .round) (noted b (getD f j 0)))
       ∙ ap bitIn (ready-content j h)
 
   pub ready-says : (j bit : ℕ) → j < s .heard .len → bit < 3

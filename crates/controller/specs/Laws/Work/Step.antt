@@ -11,7 +11,8 @@ use Rattle.wire.specs.Frame.{kindOf}
 use Rattle.wire.specs.Laws.Numbers.{listed-stored}
 use Rattle.wire.specs.Limits.{maxNumbers}
 use Rattle.wire.specs.Numbers.{stored, listed}
-use Rattle.wire.specs.Tray.{wellFormed, entries, place, bytesAt, firstBytes}
+use Rattle.wire.specs.Found.{found, foundBy}
+use Rattle.wire.specs.Tray.{wellFormed, entries}
 use Rattle.wire.specs.declared.frame.Numbers.{Numbers}
 use Rattle.controller.specs.Work.Lists.{inPlaces}
 use Rattle.controller.specs.Lists.{In}
@@ -35,17 +36,17 @@ use Rattle.controller.specs.declared.bit.Turn.{Turn}
 
 -- ---- what a step finds
 
--- a tray whose senders are all heard, with the first entries that were found
+-- a tray whose senders are all heard, with the notes on them
 pub ready-found : (s : State) (b f : List ℕ) → sound s ≡ true → wellFormed b ≡ true → ((x : ℕ) → In x (senders (entries b)) → In x (listed (s .heard)))
-    → ((j : ℕ) → j < length (listed (s .heard)) → bytesAt b (place b (getD f j 0)) ≡ firstBytes (getD (listed (s .heard)) j 0) (entries b)) → Ready s b f
-ready-found s b f h packed known first =
+    → ((j : ℕ) → j < length (listed (s .heard)) → foundBy (getD f j 0) ≡ found b (getD (listed (s .heard)) j 0)) → Ready s b f
+ready-found s b f h packed known notes =
     let heard = sound-gives s h .heard in
     record {
       sound = h;
       packed = packed;
       numbered = λ i. omega (arith, heard .positive 0 (known 0 i));
       heard = heard-known (view s) (entries b) (heard .rises) known;
-      notes = first;
+      notes = notes;
     }
 
 -- ---- the lists that a step leaves as they were

@@ -11,14 +11,14 @@ use Rattle.wire.specs.Frame.{Content, writable, kindOf, maxCount}
 use Rattle.wire.specs.Laws.Frame.{writable-gives, writable-count}
 use Rattle.wire.specs.Limits.{maxNumbers}
 use Rattle.wire.specs.Numbers.{stored, listed}
-use Rattle.wire.specs.Tray.{Entry, place, bytesAt}
+use Rattle.wire.specs.Tray.{Entry}
 use Rattle.wire.specs.Words.{Below}
 use Rattle.controller.specs.Lists.{In}
 use Rattle.controller.specs.State.{View, view, sound}
 use Rattle.controller.specs.Fields.{stateOf}
 use Rattle.controller.specs.Received.{ReceivedLists, frameOf, readIn, receive, listIn, lists}
 use Rattle.controller.specs.Work.Opened.{listUnder}
-use Rattle.controller.specs.Work.Received.{contentUnder}
+use Rattle.controller.specs.Work.Received.{noted, contentUnder}
 use Rattle.controller.specs.Laws.Lists.{rising-gives}
 use Rattle.controller.specs.Laws.State.{SoundList, Sound, sound-gives, sound-stored}
 use Rattle.controller.specs.Laws.Received.{received-allowed}
@@ -62,8 +62,8 @@ under-list f h c e b x i = pick (eqb x (f .own))
   where
     pick : (t : Bool)
         → cond t (cond (ltb 0 (maxCount (kindOf (f .round)))) (listed (record { len = f .echoes; at = e })) [])
-        (listIn (readIn (f .round) (bytesAt b (place b i))))
-        ≡ listIn (cond t (some (frameOf (view (stateOf f h c e)))) (readIn (f .round) (bytesAt b (place b i))))
+        (listIn (readIn (f .round) (noted b i)))
+        ≡ listIn (cond t (some (frameOf (view (stateOf f h c e)))) (readIn (f .round) (noted b i)))
     pick true = refl
     pick false = refl
 
