@@ -2,6 +2,7 @@
 pub mod Damage
 pub mod Examples
 pub mod Lists
+pub mod Order
 pub mod Received
 pub mod Refusals
 pub mod Rotation

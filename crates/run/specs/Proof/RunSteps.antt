@@ -15,7 +15,7 @@ use native.Mathlib.Omega.{arith}
 use borrow.Author.Tests.{eqb-true, eqb-false, eq-eqb}
 use lib.Dec.{eqb}
 use lib.ListN.{length}
-use Rattle.controller.specs.Bytes.{Entry, entries, firstBytes}
+use Rattle.controller.specs.Bytes.{Entry, entries, one, under, under-one}
 use Rattle.controller.specs.Lists.{In, NoRepeats}
 use Rattle.controller.specs.State.{View, view, startView}
 use Rattle.controller.specs.Received.{Received, frameOf, senders, readIn, receive}
@@ -88,19 +88,6 @@ module _ (c : Controller) where
   -- the frame sent for a round is that of the state of this round, so there is only one
   sent-one : {t : ℕ} {b : List ℕ} → Sent c t b → b ≡ sentBytes (stateIn t c)
   sent-one h = let (s, i, e, f) = sent-state c h in f ∙ ap sentBytes (sym (state-in s i e))
-
--- ---- entries
-
--- a sender of the tray has a first entry
-first-entry : (x : ℕ) (es : List Entry) → In x (senders es) → (e : Entry) × Member e es × (e .sender ≡ x) × (firstBytes x es ≡ some (e .bytes))
-first-entry x [] i = absurd (List·Memᴰ·not-nil i)
-first-entry x (e ∷ es) i = elim (true-or-false (eqb (e .sender) x)) [
-  | inl t ↦ (e, List·Memᴰ·head refl, eqb-true _ _ t, rw t)
-  | inr t ↦
-      let j : In x (senders es) = elim (List·Memᴰ·cases-cons i) [ inl a ↦ absurd (eqb-false _ _ t (sym a)) | inr j ↦ j ] in
-      let f = first-entry x es j in
-      (f .0, List·Memᴰ·tail (f .1), f .2, rw t (f .3))
-]
 
 -- ---- controllers and numbers
 
@@ -220,13 +207,16 @@ module _ (r : Run) where
         sound = subst Sound at (sound-gives s (accepted-fits (u .call) (u .accepted) .state));
       })
 
-  -- under the number of another proper one a tray that keeps the guarantee brings the frame of its state of that round
-  first-frame : (p t : ℕ) (b : List ℕ) → Delivers correct faulty p t b → (q : ℕ) → In q (numbers correct) → q ≢ p
-      → firstBytes q (entries b) ≡ some (sentBytes (state q t))
-  first-frame p t b d = each-number (λ q. q ≢ p → firstBytes q (entries b) ≡ some (sentBytes (state q t)))
+  -- under the number of another proper one a tray that keeps the guarantee brings one frame, that of its state of that round: all copies are equal
+  one-frame : (p t : ℕ) (b : List ℕ) → Delivers correct faulty p t b → (q : ℕ) → In q (numbers correct) → q ≢ p
+      → under q (entries b) ≡ one (sentBytes (state q t))
+  one-frame p t b d = each-number (λ q. q ≢ p → under q (entries b) ≡ one (sentBytes (state q t)))
       (λ c i ne.
-      let f = first-entry (c .number) (entries b) (d .present c i ne) in
-      f .3 ∙ ap some (sent-one c (d .frames (f .0) (f .1) c i (f .2)) ∙ ap sentBytes (sym (by-number (stateIn t) nobody c i))))
+      let sent : (e : Entry) → Member e (entries b) → e .sender ≡ c .number → e .bytes ≡ sentBytes (stateIn t c) =
+      λ e j q. sent-one c (d .frames e j c i q) in
+      let f = Memᴰ·of-map (λ (e : Entry). e .sender) (entries b) (d .present c i ne) in
+      under-one (c .number) (f .0) (entries b) (f .1) (f .2) (λ e j q. sent e j q ∙ sym (sent (f .0) (f .1) (f .2)))
+      ∙ ap one (sent (f .0) (f .1) (f .2) ∙ ap sentBytes (sym (by-number (stateIn t) nobody c i))))
 
   pub delivers-reception : (p t : ℕ) → In p (numbers correct) → Timely steps t → (b : List ℕ) → Delivers correct faulty p t b
       → Reception steps p t (receive (state p t) (entries b))
@@ -247,8 +237,8 @@ module _ (r : Run) where
           | no ne ↦
               let you = own-at t h q j in
               received-other v es q (λ e. ne (e ∙ me .own))
-              ∙ ap (λ u. readIn u (firstBytes q es)) (me .round ∙ sym (you .round))
-              ∙ ap (readIn ((state q t) .round)) (first-frame p t b d q j ne)
+              ∙ ap (λ u. readIn u (under q es)) (me .round ∙ sym (you .round))
+              ∙ ap (readIn ((state q t) .round)) (one-frame p t b d q j ne)
               ∙ own-frame-reads (state q t) (you .sound)
         ];
       }
