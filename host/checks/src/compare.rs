@@ -1,6 +1,7 @@
 //! One call on the engine and on the reference, and the first difference.
 
 use crate::calls::{Calls, Engine, Reference};
+use crate::copies::{self, copies};
 use crate::edges::{self, edges};
 use crate::fields::{Fields, IMAGE_LEN};
 use crate::random::Random;
@@ -13,13 +14,14 @@ const WALK: usize = 4;
 pub const ANSWERS: usize = 14;
 
 /// How often each answer was given, and how often accepted trays came to each edge of
-/// the rules.
+/// the rules and had each kind of copies.
 #[derive(Clone, Default)]
 pub struct Histogram {
     pub start: [u64; ANSWERS],
     pub tray: [u64; ANSWERS],
     pub frame: [u64; ANSWERS],
     pub edges: [u64; edges::NAMES.len()],
+    pub copies: [u64; copies::NAMES.len()],
 }
 
 impl Histogram {
@@ -33,6 +35,7 @@ impl Histogram {
         add_all(&mut self.tray, &other.tray);
         add_all(&mut self.frame, &other.frame);
         add_all(&mut self.edges, &other.edges);
+        add_all(&mut self.copies, &other.copies);
     }
 }
 
@@ -143,6 +146,8 @@ fn tray(
     if answer == 0 {
         let came_to = edges(&state, &Fields::of(&lent.image)).map(u64::from);
         add_all(&mut counts.edges, &came_to);
+        let had = copies(&tray, state.round).map(u64::from);
+        add_all(&mut counts.copies, &had);
     }
     Ok(())
 }

@@ -1,6 +1,7 @@
 //! What the tests of the compiled engine share.
 //!
 //! `tests/differential.rs` compares the engine with the reference call by call;
+//! `tests/order.rs` hands over entries in another order;
 //! `tests/networks.rs` runs whole networks with faulty controllers among them;
 //! `tests/programs.rs` compiles and runs the C programs and looks into the archive;
 //! `tests/format.rs` holds the bytes of docs/FORMAT.md to be true;
@@ -16,7 +17,7 @@
 //! - [`hex`]: bytes written in hex;
 //! - [`page`]: tables and worked calls of the pages in docs/;
 //! - [`compare`]: one call on both, and the first difference;
-//! - [`edges`]: what an accepted tray did;
+//! - [`edges`]: what an accepted tray did; [`copies`], what it had of copies;
 //! - [`network`], [`adversary`]: a whole network, and what its faulty ones send.
 
 #![forbid(unsafe_code)]
@@ -25,6 +26,7 @@ pub mod adversary;
 pub mod c;
 pub mod calls;
 pub mod compare;
+pub mod copies;
 pub mod edges;
 pub mod fields;
 pub mod frames;

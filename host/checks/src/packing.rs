@@ -71,6 +71,20 @@ pub fn pack(round: u32, entries: &[Entry]) -> Vec<u8> {
     tray
 }
 
+/// The entries of a well packed tray.
+pub fn unpack(tray: &[u8]) -> Vec<Entry> {
+    let half = |at: usize| usize::from(u16::from_be_bytes([tray[at], tray[at + 1]]));
+    let entry = |i: usize| {
+        let (offset, length) = (half(12 + 8 * i), half(14 + 8 * i));
+        let sender = [0, 1, 2, 3].map(|k| tray[8 + 8 * i + k]);
+        Entry {
+            sender: u32::from_be_bytes(sender),
+            bytes: tray[offset..offset + length].to_vec(),
+        }
+    };
+    (0..half(4)).map(entry).collect()
+}
+
 /// The fewest that reach a third of `heard`.
 pub fn third(heard: usize) -> usize {
     heard.div_ceil(3)

@@ -15,7 +15,7 @@ pub fn tray(random: &mut Random, pool: &[u32], state: &Fields) -> Vec<u8> {
     let senders = senders(random, pool, state);
     let mut entries = frames(random, pool, state, &senders);
     damage_some(random, &mut entries, state.round);
-    if random.percent(20) {
+    if random.percent(30) {
         repeat_some(random, &mut entries, state.round);
     }
     if random.percent(40) {
@@ -212,25 +212,43 @@ fn damage_some(random: &mut Random, entries: &mut [Entry], round: u32) {
     }
 }
 
-/// Second entries under numbers that have one: another's frame, or a void one.
-/// Some come before the first entry, and count in its place.
+/// Second entries under numbers that have one, in front of the first or behind it: a
+/// copy, a copy with one byte changed, a void frame, nothing, or another's frame.
 fn repeat_some(random: &mut Random, entries: &mut Vec<Entry>, round: u32) {
     if entries.is_empty() {
         return;
     }
     for _ in 0..random.within(1, 4) {
-        let sender = random.pick(entries_senders(entries).as_slice());
-        let mut bytes = entries[random.below(entries.len())].bytes.clone();
-        if random.percent(30) && bytes.len() >= 8 {
-            bytes = damaged(random, &bytes, round);
+        let at = random.below(entries.len());
+        let mut again = entries[at].clone();
+        match random.below(6) {
+            0 => (),
+            1 => change_byte(random, &mut again.bytes),
+            2 => again.bytes = damaged_again(random, &again.bytes, round),
+            3 => {
+                entries[at].bytes = damaged_again(random, &again.bytes, round);
+                again.bytes = damaged_again(random, &again.bytes, round);
+            }
+            4 => again.bytes.clear(),
+            _ => again.bytes = entries[random.below(entries.len())].bytes.clone(),
         }
-        let at = random.below(entries.len() + 1);
-        entries.insert(at, Entry { sender, bytes });
+        let place = random.below(entries.len() + 1);
+        entries.insert(place, again);
     }
 }
 
-fn entries_senders(entries: &[Entry]) -> Vec<u32> {
-    entries.iter().map(|entry| entry.sender).collect()
+fn change_byte(random: &mut Random, bytes: &mut [u8]) {
+    if !bytes.is_empty() {
+        bytes[random.below(bytes.len())] ^= 1 << random.below(8);
+    }
+}
+
+/// A void frame, also of one that is void already.
+fn damaged_again(random: &mut Random, bytes: &[u8], round: u32) -> Vec<u8> {
+    match bytes.len() >= 8 {
+        true => damaged(random, bytes, round),
+        false => random.bytes(7),
+    }
 }
 
 /// Repeats entries until there are about as many as a tray may have.

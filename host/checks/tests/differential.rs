@@ -8,6 +8,8 @@
 use checks::compare::ANSWERS;
 use checks::compare::{case, Histogram};
 #[cfg(not(feature = "fault"))]
+use checks::copies;
+#[cfg(not(feature = "fault"))]
 use checks::edges::NAMES;
 use std::thread;
 
@@ -54,6 +56,10 @@ fn the_engine_and_the_reference_agree() {
     for (name, count) in NAMES.iter().zip(counts.edges) {
         println!("{name}: {count}");
         assert!(count >= 1000, "few trays: {name}");
+    }
+    for (name, count) in copies::NAMES.iter().zip(counts.copies) {
+        println!("{name}: {count}");
+        assert!(count >= 10_000, "few trays: {name}");
     }
     assert!(counts.calls() >= 1_000_000);
     for answer in [0, 1, 3, 9] {

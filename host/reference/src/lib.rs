@@ -8,7 +8,7 @@
 //! a refused call changes nothing but the length, which becomes 0.
 //!
 //! - [`frame`] reads and writes frames;
-//! - `tray` reads a tray's directory and finds each sender's first entry;
+//! - `tray` reads a tray's directory and finds each sender's frame;
 //! - `state` is the state, its image, and when it is sound;
 //! - `count` has the two thresholds and the tally of lists;
 //! - `step` makes the next round from a tray.

@@ -153,7 +153,9 @@ impl<'a> Received<'a> {
     /// A bound for how many numbers the frames list.
     pub fn most_listed(&self) -> usize {
         let frames = self.frames[..self.len].iter();
-        frames.map(|(_, bytes)| bytes.map_or(0, <[u8]>::len) / 4).sum()
+        frames
+            .map(|(_, bytes)| bytes.map_or(0, <[u8]>::len) / 4)
+            .sum()
     }
 
     /// One sender's frame, if it sent one that is not void for the state's round.
