@@ -23,7 +23,7 @@ use Rattle.controller.specs.Lists.{In}
 use Rattle.controller.specs.Received.{senders, receive}
 use Rattle.controller.specs.Refusals.{trayRefusal, sendersFit, heardFit, listsFit}
 use Rattle.controller.specs.Rules.{next}
-use Rattle.controller.specs.State.{View, view, storedState, sound, bitPart, stateFrom}
+use Rattle.controller.specs.State.{view, storedState, sound, bitPart, stateFrom}
 use Rattle.controller.specs.Work.Received.{Hears, Ready}
 use Rattle.controller.specs.Work.Calls.{Checked}
 use Rattle.controller.specs.declared.state.Answer.{Answer}

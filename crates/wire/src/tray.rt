@@ -1,10 +1,13 @@
 // Trays: the frames of one round, as a host hands them over. The layout is that of document 01, "Trays"; specs/Tray.antt says what each call
 // answers, outside the directory too.
+ghost use mathlib.Core.Bool.{cond};
 ghost use mathlib.Core.Path.{_≡_};
 ghost use Prim.Native.Nat.{_+_, _≤_};
 ghost use lib.Dec.{leb};
 ghost use lib.ListN.{length};
 ghost use Rattle.wire.specs.Lent.{before};
+ghost use Rattle.wire.specs.Limits.{entryWidth};
+ghost use Rattle.wire.specs.Words.{wordAt};
 ghost use Rattle.wire.specs.Tray.{wellFormed, roundOf, entryCount, entryAt, inDirectory, sender, place, chained, part};
 use crate::limits::ENTRIES_AT;
 use crate::limits::ENTRY_WIDTH;
@@ -46,26 +49,30 @@ fn in_directory(tray: &[u8], i: usize) -> bool
     TRAY_HEADER <= tray.len() && i < (tray.len() - TRAY_HEADER) / ENTRY_WIDTH
 }
 
+// The word at `at` of entry `i`; 0 outside the directory.
+fn entry_word(tray: &[u8], i: usize, at: usize) -> u32
+    requires { ⌜ at + 4 ≤ entryWidth ⌝ }
+    ensures { λ r. ⌜ r ≡ cond (inDirectory (before tray) i) (wordAt (before tray) (entryAt i + at)) 0 ⌝ }
+{
+    if in_directory(tray, i) {
+        word(tray, TRAY_HEADER + ENTRY_WIDTH * i + at)
+    } else {
+        0
+    }
+}
+
 // The sender of entry `i`; 0 outside the directory.
 pub fn entry_sender(tray: &[u8], i: usize) -> u32
     ensures { λ r. ⌜ r ≡ sender (before tray) i ⌝ }
 {
-    if in_directory(tray, i) {
-        word(tray, TRAY_HEADER + ENTRY_WIDTH * i)
-    } else {
-        0
-    }
+    entry_word(tray, i, 0)
 }
 
 // Where the frame of entry `i` lies, offset and length in one word; 0 outside the directory.
 pub fn entry_place(tray: &[u8], i: usize) -> u32
     ensures { λ r. ⌜ r ≡ place (before tray) i ⌝ }
 {
-    if in_directory(tray, i) {
-        word(tray, TRAY_HEADER + ENTRY_WIDTH * i + OFFSET_AT)
-    } else {
-        0
-    }
+    entry_word(tray, i, OFFSET_AT)
 }
 
 // Whether the frames follow each other without a gap from the directory's end to the tray's end.

@@ -12,7 +12,7 @@ use lib.ListN.{length}
 use lib.Seq.{map-set-same}
 use Rattle.wire.specs.Frame.{Content, content}
 use Rattle.wire.specs.Refusal.{firstFailed}
-use Rattle.wire.specs.Found.{Under, one, several, under}
+use Rattle.wire.specs.Found.{one, several, under}
 use Rattle.wire.specs.Tray.{Entry, wellFormed, roundOf, entryCount, lengthOf, sender, entries, overwritten}
 use Rattle.wire.specs.Laws.Tray.{entry-at}
 use Rattle.wire.specs.Laws.Damage.{overwritten-packed, overwritten-round, overwritten-entries, overwritten-under}

@@ -12,13 +12,13 @@ use mathlib.Core.Option.{some, none}
 use mathlib.Core.Path.{_≡_, refl, sym, ap, ap₂, _∙_, subst}
 use native.Mathlib.Decide.{ℕ-discrete}
 use native.Mathlib.Omega.{arith}
-use borrow.Author.Tests.{eqb-true, eqb-false, eq-eqb}
+use borrow.Author.Tests.{eqb-true, eq-eqb}
 use lib.Dec.{eqb}
 use lib.ListN.{length}
 use Rattle.controller.specs.Bytes.{Entry, entries, one, under, under-one}
 use Rattle.controller.specs.Lists.{In, NoRepeats}
 use Rattle.controller.specs.State.{View, view, startView}
-use Rattle.controller.specs.Received.{Received, frameOf, senders, readIn, receive}
+use Rattle.controller.specs.Received.{Received, frameOf, readIn, receive}
 use Rattle.controller.specs.Rules.{step}
 use Rattle.controller.specs.Calls.{sentBytes}
 use Rattle.controller.specs.Laws.Lists.{true-or-false, no-repeats-left}

@@ -5,14 +5,14 @@ use mathlib.Core.List.{List, [], _∷_, map, List·Memᴰ, List·Memᴰ·head, L
 use mathlib.Core.List.{List·Permᴰ·nil, List·Permᴰ·cons, List·Permᴰ·swap, List·Permᴰ·trans}
 use mathlib.Core.Logic.{_⊎_, inl, inr, _≢_}
 use mathlib.Core.Path.{_≡_, refl, sym, ap, ap₂, _∙_}
-use borrow.Author.Tests.{eqb-true, eqb-false, eq-eqb, ne-eqb, le-leb, not-true}
+use borrow.Author.Tests.{eqb-true, eq-eqb, ne-eqb, le-leb}
 use native.Mathlib.Decide.{ℕ-discrete}
 use native.Mathlib.Omega.{arith}
 use lib.Dec.{leb, eqb}
 use lib.ListN.{length, getD, take, drop}
 use Rattle.wire.specs.Limits.{offsetAt, lengthAt}
-use Rattle.wire.specs.Words.{Below, halfAt, wordAt}
-use Rattle.wire.specs.Tray.{Entry, entryCount, entryAt, offsetOf, lengthOf, inDirectory, sender, place, part, entriesFrom, entries, wellFormed}
+use Rattle.wire.specs.Words.{Below}
+use Rattle.wire.specs.Tray.{Entry, entryCount, entryAt, offsetOf, lengthOf, sender, place, part, entriesFrom, entries, wellFormed}
 use Rattle.wire.specs.Found.{framesUnder, sameBytes, allSame, Under, nothing, one, several, amongFrames, under, firstFrom, answer, found, meaning}
 use Rattle.wire.specs.Found.{noFrame, different, foundBy, sameAt, noteWith, noteFrom}
 use Rattle.wire.specs.Laws.Tray.{directory-holds, part-inside}
@@ -143,13 +143,13 @@ module _ (s : List ℕ) (packed : wellFormed s ≡ true) (bytes : Below 256 s) w
         omega (arith, bytes (entryAt i + lengthAt), bytes (entryAt i + lengthAt + 1)),
       )
 
-  place-found : (i : ℕ) → i < entryCount s → (place s i ≢ noFrame) × (foundBy (place s i) ≡ At (offsetOf s i) (lengthOf s i))
+  place-found : (i : ℕ) → i < entryCount s → foundBy (place s i) ≡ At (offsetOf s i) (lengthOf s i)
   place-found i h =
       let is = place-is i h in
       let k = place s i in
       let high : k / 65536 ≡ offsetOf s i = omega (arith, is .0, is .2) in
       let low : k % 65536 ≡ lengthOf s i = omega (arith, is .0, is .2) in
-      (λ e. omega (arith, is .0, is .1), rw (ne-eqb k noFrame (λ e. omega (arith, is .0, is .1)), ne-eqb k different (λ e. omega (arith, is .0, is .1)), high, low))
+      rw (ne-eqb k noFrame (λ e. omega (arith, is .0, is .1)), ne-eqb k different (λ e. omega (arith, is .0, is .1)), high, low)
 
 -- ---- the answer
 
@@ -228,10 +228,10 @@ module _ (s : List ℕ) (packed : wellFormed s ≡ true) (bytes : Below 256 s) w
   note-step : (i k j : ℕ) (u : Under) → i < entryCount s → foundBy k ≡ answer s j u
       → ((c : List ℕ) → u ≡ one c → (j < entryCount s) × (part s (offsetOf s j) (lengthOf s j) ≡ c))
       → foundBy (noteWith s k (place s i)) ≡ answer s i (beside (part s (offsetOf s i) (lengthOf s i)) u)
-  note-step i k j nothing h e first = rw (note-nothing k e) (place-found s packed bytes i h .1)
+  note-step i k j nothing h e first = rw (note-nothing k e) (place-found s packed bytes i h)
   note-step i k j (one c) h e first =
       let behind = first c refl in
-      let here = place-found s packed bytes i h .1 in
+      let here = place-found s packed bytes i h in
       rw (
         note-chosen s k (place s i) _ _ (note-some k (ap isNothing e)) here e,
         le-leb (offsetOf s i + lengthOf s i) (length s) (part-inside s packed i h .1),
@@ -244,7 +244,7 @@ module _ (s : List ℕ) (packed : wellFormed s ≡ true) (bytes : Below 256 s) w
       pick true here = here
       pick false here = refl
   note-step i k j several h e first =
-      ap foundBy (note-chosen s k (place s i) _ _ (note-some k (ap isNothing e)) (place-found s packed bytes i h .1) e)
+      ap foundBy (note-chosen s k (place s i) _ _ (note-some k (ap isNothing e)) (place-found s packed bytes i h) e)
 
   notes-found : (x n i : ℕ) → i + n ≤ entryCount s → foundBy (noteFrom s x n i) ≡ answer s (firstFrom s x n i) (under x (entriesFrom s n i))
   notes-found x zero i h = refl

@@ -9,16 +9,11 @@ use native.Mathlib.Nat.{eq-or-lt-of-le}
 use native.Mathlib.Omega.{arith}
 use lib.Dec.{leb, eqb}
 use lib.ListN.{length, getD}
-use Rattle.wire.specs.Limits.{trayHeader, entriesAt, zeroAt, maxTray, maxEntries}
-use Rattle.wire.specs.Laws.Words.{half-below}
-use Rattle.wire.specs.Words.{Below, halfAt}
+use Rattle.wire.specs.Limits.{trayHeader, zeroAt, maxTray, maxEntries}
+use Rattle.wire.specs.Words.{halfAt}
 use Rattle.wire.specs.Tray.{Entry, entryCount, entryAt, offsetOf, lengthOf, inDirectory, sender, chained, wellFormed, part, entriesFrom, entries}
 
 -- ---- the directory
-
-pub entry-count-below : (s : List ℕ) → Below 256 s → entryCount s < 65536
-unfolding entryCount
-entry-count-below s b = half-below s b entriesAt (leb trayHeader (length s))
 
 pub in-directory-gives : (s : List ℕ) (i : ℕ) → inDirectory s i ≡ true → entryAt (i + 1) ≤ length s
 unfolding inDirectory

@@ -7,11 +7,11 @@ use mathlib.Core.Path.{_≡_, sym, ap, subst, _∙_}
 use native.Mathlib.Omega.{arith}
 use borrow.Author.Needs.{needs}
 use denote.Ref.{now}
-use lib.ListN.{length, getD, set}
+use lib.ListN.{getD}
 use Rattle.wire.specs.Found.{noteWith}
 use Rattle.wire.specs.Limits.{maxNumbers}
 use Rattle.wire.specs.Numbers.{stored, listed}
-use Rattle.wire.specs.Tray.{entryCount, sender, place}
+use Rattle.wire.specs.Tray.{entryCount, sender}
 use Rattle.wire.specs.Words.{Below}
 use Rattle.wire.specs.declared.frame.Numbers.{Numbers}
 use Rattle.controller.specs.Lists.{In}
@@ -213,8 +213,9 @@ loop-again c =
           (join .n) (join .heard) (join .notes) (t .6) (t .4) (t .5)
       | inr u ↦
           let sent = other near .before .entry-sender in
-          let longer : _≡_ {A = Numbers} (record { len = v .n + 1; at = u .4 .last .0 }) (stored (insertedAt p (sender b (entry at)) (listed (list (at .before))))) =
-          u .4 .ensures ∙ ap (λ (x : ℕ). stored (insertedAt p x (listed (list (at .before))))) (sent .ensures) in
+          let l = listed (list (at .before)) in
+          let longer : _≡_ {A = Numbers} (record { len = v .n + 1; at = u .4 .last .0 }) (stored (insertedAt p (sender b (entry at)) l)) =
+          u .4 .ensures ∙ ap (λ (x : ℕ). stored (insertedAt p x l)) (sent .ensures) in
           moved (hears-new (counted at) (so-far at) (unknown has (u .0 .left)) p (sender-place near) (u .2 .left) (λ z. u .1 .left (sent .ensures ∙ z))
           (another near) _ longer (u .7 .last .0) (u .7 .ensures ∙ ap (λ (w : ℕ). opened p w (v .n) (v .notes)) (u .6 .ensures)))
           (join .n) (join .heard) (join .notes) (u .10) (u .8) (u .9)

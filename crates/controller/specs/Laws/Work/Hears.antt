@@ -1,17 +1,17 @@
 -- Laws of hearing a tray entry by entry, from the directory's end to its front: what is in hand before an entry, and what is in hand with it.
 use Prim.Native.Nat.{ℕ, zero, suc, _+_, _-_, _≤_, _<_}
 use mathlib.Core.Bool.{Bool, true, false, not, cond, _&&_, and-comm}
-use mathlib.Core.List.{List, [], _∷_, List·Memᴰ·head, List·Memᴰ·tail, List·Memᴰ·cases-cons, List·Memᴰ·not-nil, Memᴰ·cast}
+use mathlib.Core.List.{List, _∷_, List·Memᴰ·cases-cons, List·Memᴰ·not-nil, Memᴰ·cast}
 use mathlib.Core.Logic.{inl, inr, _≢_}
 use mathlib.Core.Path.{_≡_, refl, sym, ap, subst, _∙_}
 use native.Mathlib.Decide.{ℕ-discrete, decLt}
 use native.Mathlib.Nat.{sub-zero}
 use native.Mathlib.Omega.{arith}
-use borrow.Author.Tests.{eq-eqb, ne-eqb, le-leb, lt-leb, le-ltb}
+use borrow.Author.Tests.{eq-eqb, ne-eqb, lt-leb, le-ltb}
 use lib.Dec.{leb, eqb, ltb}
 use lib.ListN.{length, getD, set, replicate, length-set, length-replicate, getD-replicate}
 use lib.Seq.{getD-set-same, getD-set-other}
-use Rattle.wire.specs.Found.{noFrame, foundBy, found, noteWith, noteFrom}
+use Rattle.wire.specs.Found.{noFrame, foundBy, noteWith, noteFrom}
 use Rattle.wire.specs.Laws.Found.{note-found, note-none}
 use Rattle.wire.specs.Laws.Numbers.{listed-stored}
 use Rattle.wire.specs.Limits.{maxNumbers}
@@ -19,7 +19,7 @@ use Rattle.wire.specs.Numbers.{stored, listed}
 use Rattle.wire.specs.Tray.{wellFormed, entryCount, sender, place, entriesFrom, entries}
 use Rattle.wire.specs.Words.{Below}
 use Rattle.wire.specs.declared.frame.Numbers.{Numbers}
-use Rattle.controller.specs.Lists.{In, Rising, mem, insert, insertAll}
+use Rattle.controller.specs.Lists.{In, mem, insert, insertAll}
 use Rattle.controller.specs.State.{soundList}
 use Rattle.controller.specs.Received.{senders}
 use Rattle.controller.specs.Work.Lists.{below, insertedAt, opened}
@@ -91,7 +91,8 @@ module _ {own : ℕ} {b l : List ℕ} {list : Numbers} {f : List ℕ} {i : ℕ} 
     known-notes p q at is j k = elim (ℕ-discrete j p) [
       | yes e ↦
           let here : getD (listed list) j 0 ≡ x = ap (λ (m : ℕ). getD (listed list) m 0) (e ∙ at) ∙ rising-place x (listed list) (was .list .rises) there in
-          let put : getD (set f p q) j 0 ≡ q = ap (λ (m : ℕ). getD (set f p q) m 0) e ∙ getD-set-same f p q 0 (omega (arith, so-far .places, was .list .short)) in
+          let put : getD (set f p q) j 0 ≡ q =
+          ap (λ (m : ℕ). getD (set f p q) m 0) e ∙ getD-set-same f p q 0 (omega (arith, so-far .places, was .list .short)) in
           let old : getD f p 0 ≡ note b x (i + 1) = ap (λ (m : ℕ). getD f m 0) (sym e) ∙ so-far .notes j k ∙ ap (λ (y : ℕ). note b y (i + 1)) here in
           put ∙ is ∙ rw (here, note-step x, eq-eqb x x refl, old)
       | no d ↦
@@ -228,7 +229,8 @@ refused own b l at f unfit = record { fits = sym unfit; list = λ h. absurd (ome
 -- a sender is the own number, or 0
 pub hears-own : (own : ℕ) (b l : List ℕ) (i : ℕ) (at f : List ℕ) → i < entryCount b → sender b i ≡ own → Hears own b l (maxNumbers + 1) at f
 hears-own own b l i at f h e =
-    refused own b l at f (rw (in-mem (Memᴰ·cast (sym e) (sender-in b i h))) (pick (not (mem 0 (senders (entries b)))) (leb (length (heardAfter b l)) maxNumbers)))
+    refused own b l at f
+    (rw (in-mem (Memᴰ·cast (sym e) (sender-in b i h))) (pick (not (mem 0 (senders (entries b)))) (leb (length (heardAfter b l)) maxNumbers)))
   where
     pick : (t u : Bool) → (t && false && u) ≡ false
     pick true u = refl

@@ -1,39 +1,25 @@
--- `wire::tray::entry_sender` meets its contract: within the directory the entry lies in the tray, so its sender can be read.
-use Prim.Native.Nat.{_+_, _≤_}
-use mathlib.Core.Path.{sym, _∙_}
+-- `wire::tray::entry_sender` meets its contract: the sender is the entry's first word.
+use Prim.Native.Nat.{ℕ, _+_}
+use mathlib.Core.Bool.{cond}
+use mathlib.Core.Path.{_≡_, ap, _∙_}
 use native.Mathlib.Omega.{arith}
 use borrow.Author.Needs.{needs}
 use denote.Ref.{now}
-use lib.ListN.{length}
-use Rattle.wire.specs.Laws.Tray.{in-directory-gives}
-use Rattle.wire.specs.Tray.{entryAt, sender}
+use Rattle.wire.specs.Tray.{entryAt, inDirectory, sender}
+use Rattle.wire.specs.Words.{wordAt}
 use Rattle.wire.proofs.tray.entry_sender.Statement.{statement}
 use Rattle.wire.proofs.tray.entry_sender.Tie as tie
 
--- it ends within the tray
-whole : (c : tie.Then1) → let a = c .before .before .before .args in entryAt (a .i + 1) ≤ length (now (a .tray))
-whole c = in-directory-gives _ _ (sym (c .before .in-directory .ensures) ∙ c .if1 .taken)
-
-in-directory-requires : tie.Need-in-directory-requires
-in-directory-requires c κs = search needs
-
-mul-word : tie.Need-mul-word
-mul-word c = omega (arith, whole c)
-
-add-word : tie.Need-add-word
-add-word c = omega (arith, whole c)
-
-word-requires : tie.Need-word-requires
-word-requires c κs = omega (arith, whole c)
+entry-word-requires : tie.Need-entry-word-requires
+entry-word-requires c κs = search needs
 
 returns : tie.Need-returns
 unfolding sender
-returns c = rw (sym (c .before .before .in-directory .ensures) ∙ c .before .if1 .taken) (c .word .ensures)
-
-returns-2 : tie.Need-returns-2
-unfolding sender
-returns-2 c = rw (sym (c .before .in-directory .ensures) ∙ c .if1 .left)
+returns c =
+    let a = c .before .before .args in
+    let s = now (a .tray) in
+    let first : entryAt (a .i) + 0 ≡ entryAt (a .i) = omega arith in
+    c .entry-word .ensures ∙ ap (λ (at : ℕ). cond (inDirectory s (a .i)) (wordAt s at) 0) first
 
 pub entry-sender-spec : {M : Type 1} → statement M
-entry-sender-spec =
-    tie.close (tie.spec in-directory-requires mul-word add-word word-requires returns returns-2)
+entry-sender-spec = tie.close (tie.spec entry-word-requires returns)
