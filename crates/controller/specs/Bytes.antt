@@ -6,4 +6,4 @@ pub use Rattle.wire.specs.Limits.{maxFrame}
 pub use Rattle.wire.specs.Found.{one, under}
 pub use Rattle.wire.specs.Laws.Found.{under-one}
 pub use Rattle.wire.specs.Tray.{Entry}
-unfoldable pub use Rattle.wire.specs.Tray.{wellFormed, roundOf, entryCount, inDirectory, sender, part, entries}
+unfoldable pub use Rattle.wire.specs.Tray.{wellFormed, roundOf, entryCount, sender, part, entries}

@@ -26,8 +26,10 @@ use wire::frame::Read;
 use wire::frame::bit_said;
 use wire::frame::kind_of;
 use wire::frame::max_count;
+use wire::limits::ENTRY_WIDTH;
 use wire::limits::MAX_NUMBERS;
 use wire::read::read_frame;
+use wire::tray::directory;
 use wire::tray::entry_count;
 use wire::tray::entry_place;
 use wire::tray::entry_sender;
@@ -38,10 +40,11 @@ pub(crate) fn senders_fit(tray: &[u8], own: u32) -> bool
     requires { ⌜ wellFormed (now tray) ≡ true ⌝ }
     ensures { λ r. ⌜ r ≡ othersOnly own (senders (entries (before tray))) ⌝ }
 {
+    let entries = directory(tray);
     let count = entry_count(tray);
     let mut i = 0;
     while i < count {
-        let x = entry_sender(tray, i);
+        let x = entry_sender(entries, i);
         if x == 0 {
             return false;
         }
@@ -68,18 +71,19 @@ pub(crate) fn hear(
     requires { ⌜ (wellFormed (now tray) ≡ true) × (soundList (inPlaces len (now heard)) ≡ true) × (now notes ≡ replicate maxNumbers noFrame) ⌝ }
     ensures { λ r. ⌜ Hears own (before tray) (listed (inPlaces len (before heard))) r (after heard) (after notes) ⌝ }
 {
+    let entries = directory(tray);
     let mut n = len;
     let mut next = 0;
-    let mut i = entry_count(tray);
+    let mut i = entries.len() / ENTRY_WIDTH;
     while 0 < i {
         i -= 1;
-        let x = entry_sender(tray, i);
+        let x = entry_sender(entries, i);
         if x == own {
             return TOO_MANY;
         }
         let j = place_near(heard, n, x, next);
         if has_at(heard, n, j, x) {
-            notes[j] = note_with(tray, notes[j], entry_place(tray, i));
+            notes[j] = note_with(tray, notes[j], entry_place(entries, i));
         } else {
             if x == 0 {
                 return TOO_MANY;
@@ -88,7 +92,7 @@ pub(crate) fn hear(
                 return TOO_MANY;
             }
             insert_at(heard, n, j, x);
-            open_at(notes, n, j, entry_place(tray, i));
+            open_at(notes, n, j, entry_place(entries, i));
             n += 1;
         }
         next = (j + MAX_NUMBERS - 1) % MAX_NUMBERS;

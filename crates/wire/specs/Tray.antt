@@ -2,16 +2,17 @@
 --     wellFormed s            the paper's "well packed"
 --     roundOf s               the round in which the tray's frames were sent
 --     entryCount s            how many entries the tray says it has
---     inDirectory s i         entry i lies whole in the tray's bytes
---     sender s i, place s i   the sender of entry i, and where its frame lies: offset and length in one word; 0 outside the directory
+--     directory s             the entries' bytes; no bytes where they run past the end
+--     wordOf d i at           the word at `at` of entry i of the directory d; 0 where there is no such entry
+--     sender s i, place s i   the sender of entry i, and where its frame lies: offset and length in one word
 --     part s o n              the n bytes from o on; no bytes where they run past the end
 --     entries s               the tray as a list of entries: who sent, and the bytes
 --     overwritten s i new     the tray s with the bytes new in the place of entry i's frame
 -- Offsets and lengths are added as numbers without a bound, so no sum wraps.
-use Prim.Native.Nat.{ℕ, zero, suc, _+_, _*_}
+use Prim.Native.Nat.{ℕ, zero, suc, _+_, _*_, _/_}
 use mathlib.Core.Bool.{Bool, cond, _&&_}
 use mathlib.Core.List.{List, [], _∷_, _++_}
-use lib.Dec.{leb, eqb}
+use lib.Dec.{leb, ltb, eqb}
 use lib.ListN.{length, take, drop}
 use Rattle.wire.specs.Limits.{trayHeader, entriesAt, zeroAt, entryWidth, offsetAt, lengthAt, maxTray, maxEntries}
 use Rattle.wire.specs.Words.{halfAt, wordAt}
@@ -23,6 +24,11 @@ roundOf s = cond (leb trayHeader (length s)) (wordAt s 0) 0
 
 unfoldable pub entryCount : List ℕ → ℕ
 entryCount s = cond (leb trayHeader (length s)) (halfAt s entriesAt) 0
+
+-- ---- parts of a tray
+
+unfoldable pub part : List ℕ → ℕ → ℕ → List ℕ
+part s o n = cond (leb (o + n) (length s)) (take n (drop o s)) []
 
 -- ---- the directory
 
@@ -36,14 +42,17 @@ offsetOf s i = halfAt s (entryAt i + offsetAt)
 abbrev pub lengthOf : List ℕ → ℕ → ℕ
 lengthOf s i = halfAt s (entryAt i + lengthAt)
 
-unfoldable pub inDirectory : List ℕ → ℕ → Bool
-inDirectory s i = leb (entryAt (i + 1)) (length s)
+abbrev pub directory : List ℕ → List ℕ
+directory s = part s trayHeader (entryWidth * entryCount s)
+
+abbrev pub wordOf : List ℕ → ℕ → ℕ → ℕ
+wordOf d i at = cond (ltb i (length d / entryWidth)) (wordAt d (entryWidth * i + at)) 0
 
 unfoldable pub sender : List ℕ → ℕ → ℕ
-sender s i = cond (inDirectory s i) (wordAt s (entryAt i)) 0
+sender s i = wordOf (directory s) i 0
 
 unfoldable pub place : List ℕ → ℕ → ℕ
-place s i = cond (inDirectory s i) (wordAt s (entryAt i + offsetAt)) 0
+place s i = wordOf (directory s) i offsetAt
 
 -- ---- well packed
 
@@ -58,9 +67,6 @@ wellFormed s =
     && leb (entryAt (entryCount s)) (length s) && chained s (entryCount s) 0 (entryAt (entryCount s))
 
 -- ---- the tray as a list of entries
-
-unfoldable pub part : List ℕ → ℕ → ℕ → List ℕ
-part s o n = cond (leb (o + n) (length s)) (take n (drop o s)) []
 
 pub record Entry : Type 0 where
   pub sender : ℕ

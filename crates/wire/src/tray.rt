@@ -1,14 +1,12 @@
 // Trays: the frames of one round, as a host hands them over. The layout is that of document 01, "Trays"; specs/Tray.antt says what each call
 // answers, outside the directory too.
-ghost use mathlib.Core.Bool.{cond};
 ghost use mathlib.Core.Path.{_≡_};
 ghost use Prim.Native.Nat.{_+_, _≤_};
 ghost use lib.Dec.{leb};
 ghost use lib.ListN.{length};
 ghost use Rattle.wire.specs.Lent.{before};
-ghost use Rattle.wire.specs.Limits.{entryWidth};
-ghost use Rattle.wire.specs.Words.{wordAt};
-ghost use Rattle.wire.specs.Tray.{wellFormed, roundOf, entryCount, entryAt, inDirectory, sender, place, chained, part};
+ghost use Rattle.wire.specs.Limits.{entryWidth, offsetAt};
+ghost use Rattle.wire.specs.Tray.{wellFormed, roundOf, entryCount, entryAt, directory, wordOf, chained, part};
 use crate::limits::ENTRIES_AT;
 use crate::limits::ENTRY_WIDTH;
 use crate::limits::LENGTH_AT;
@@ -42,37 +40,55 @@ pub fn entry_count(tray: &[u8]) -> usize
     }
 }
 
-// Whether entry `i` lies whole in the tray's bytes.
-fn in_directory(tray: &[u8], i: usize) -> bool
-    ensures { λ r. ⌜ r ≡ inDirectory (before tray) i ⌝ }
+// Whether the `len` bytes from `offset` on lie in the tray. No sum is made that could wrap.
+fn lies_in(tray: &[u8], offset: usize, len: usize) -> bool
+    ensures { λ r. ⌜ r ≡ leb (offset + len) (length (before tray)) ⌝ }
 {
-    TRAY_HEADER <= tray.len() && i < (tray.len() - TRAY_HEADER) / ENTRY_WIDTH
+    offset <= tray.len() && len <= tray.len() - offset
 }
 
-// The word at `at` of entry `i`; 0 outside the directory.
-fn entry_word(tray: &[u8], i: usize, at: usize) -> u32
-    requires { ⌜ at + 4 ≤ entryWidth ⌝ }
-    ensures { λ r. ⌜ r ≡ cond (inDirectory (before tray) i) (wordAt (before tray) (entryAt i + at)) 0 ⌝ }
+// The `len` bytes from `offset` on; no bytes where they run past the tray's end.
+pub fn part_of<'a>(tray: &'a [u8], offset: usize, len: usize) -> &'a [u8]
+    ensures { λ r. ⌜ now r ≡ part (before tray) offset len ⌝ }
 {
-    if in_directory(tray, i) {
-        word(tray, TRAY_HEADER + ENTRY_WIDTH * i + at)
+    if lies_in(tray, offset, len) {
+        &tray[offset..offset + len]
+    } else {
+        &tray[0..0]
+    }
+}
+
+// The directory: the entries' bytes. No bytes where they run past the tray's end.
+pub fn directory<'a>(tray: &'a [u8]) -> &'a [u8]
+    ensures { λ r. ⌜ now r ≡ directory (before tray) ⌝ }
+{
+    part_of(tray, TRAY_HEADER, ENTRY_WIDTH * entry_count(tray))
+}
+
+// The word at `at` of entry `i` of a directory; 0 where there is no such entry.
+fn entry_word(directory: &[u8], i: usize, at: usize) -> u32
+    requires { ⌜ at + 4 ≤ entryWidth ⌝ }
+    ensures { λ r. ⌜ r ≡ wordOf (before directory) i at ⌝ }
+{
+    if i < directory.len() / ENTRY_WIDTH {
+        word(directory, ENTRY_WIDTH * i + at)
     } else {
         0
     }
 }
 
-// The sender of entry `i`; 0 outside the directory.
-pub fn entry_sender(tray: &[u8], i: usize) -> u32
-    ensures { λ r. ⌜ r ≡ sender (before tray) i ⌝ }
+// The sender of entry `i` of a directory; 0 where there is no such entry.
+pub fn entry_sender(directory: &[u8], i: usize) -> u32
+    ensures { λ r. ⌜ r ≡ wordOf (before directory) i 0 ⌝ }
 {
-    entry_word(tray, i, 0)
+    entry_word(directory, i, 0)
 }
 
-// Where the frame of entry `i` lies, offset and length in one word; 0 outside the directory.
-pub fn entry_place(tray: &[u8], i: usize) -> u32
-    ensures { λ r. ⌜ r ≡ place (before tray) i ⌝ }
+// Where the frame of entry `i` of a directory lies, offset and length in one word; 0 where there is no such entry.
+pub fn entry_place(directory: &[u8], i: usize) -> u32
+    ensures { λ r. ⌜ r ≡ wordOf (before directory) i offsetAt ⌝ }
 {
-    entry_word(tray, i, OFFSET_AT)
+    entry_word(directory, i, OFFSET_AT)
 }
 
 // Whether the frames follow each other without a gap from the directory's end to the tray's end.
@@ -101,22 +117,4 @@ pub fn well_formed(tray: &[u8]) -> bool
     (TRAY_HEADER <= tray.len()) & (tray.len() <= MAX_TRAY) & (count <= MAX_ENTRIES)
         && (half(tray, ZERO_AT) == 0) & (TRAY_HEADER + ENTRY_WIDTH * count <= tray.len())
         && frames_follow(tray, count)
-}
-
-// Whether the `len` bytes from `offset` on lie in the tray. No sum is made that could wrap.
-fn lies_in(tray: &[u8], offset: usize, len: usize) -> bool
-    ensures { λ r. ⌜ r ≡ leb (offset + len) (length (before tray)) ⌝ }
-{
-    offset <= tray.len() && len <= tray.len() - offset
-}
-
-// The `len` bytes from `offset` on; no bytes where they run past the tray's end.
-pub fn part_of<'a>(tray: &'a [u8], offset: usize, len: usize) -> &'a [u8]
-    ensures { λ r. ⌜ now r ≡ part (before tray) offset len ⌝ }
-{
-    if lies_in(tray, offset, len) {
-        &tray[offset..offset + len]
-    } else {
-        &tray[0..0]
-    }
 }

@@ -26,7 +26,7 @@ pub const ALL: [Make; 13] = [
         common_number,
     ),
     (
-        "turn tray, different numbers, new senders, 256 entries",
+        "turn tray, different numbers, new senders, each frame four times",
         new_senders,
     ),
     ("value tray, 256 entries", repeated_entries),
@@ -202,8 +202,8 @@ fn common_number(size: usize) -> Input {
     turn_tray(&state, list)
 }
 
-/// Different numbers from senders none of whom is heard yet, in falling order, again
-/// and again up to 256 entries.
+/// Different numbers from senders none of whom is heard yet, in falling order, four
+/// times, or for n = 64 as often as a tray holds.
 fn new_senders(size: usize) -> Input {
     let mut state = state(size, 5);
     state.heard.truncate(1);
@@ -212,7 +212,7 @@ fn new_senders(size: usize) -> Input {
     let frames = others.map(|(place, n)| (n, frame(5, NONE, &own_numbers(size, place))));
     Input {
         image: state.image(),
-        trays: vec![from_others(5, repeated(frames, MAX_ENTRIES))],
+        trays: vec![from_others(5, repeated(frames, 4 * (size - 1)))],
     }
 }
 

@@ -1,7 +1,7 @@
 -- The two worked examples come out as document 01 says, by computation.
 use mathlib.Core.Path.{refl}
 use Rattle.wire.specs.Frame.{kindOf, chosenBy, saidBy, bitFits, maxCount, lengthFits, roundFits, headFits, bodyFits, readRefusal, content, frameBytes}
-use Rattle.wire.specs.Tray.{roundOf, entryCount, inDirectory, sender, wellFormed, part, entries}
+use Rattle.wire.specs.Tray.{roundOf, entryCount, sender, wellFormed, part, entries}
 use Rattle.controller.specs.Thirds.{third, twoThirds}
 use Rattle.controller.specs.State.{sound}
 use Rattle.controller.specs.Received.{frameOf, receive}
@@ -20,7 +20,7 @@ session-printed = record { start-accepted = refl; trays-accepted = refl; printed
 -- 5 has a bit of its own, and the other two take it
 pub late-joiner : LateJoiner 0 1 1 × LateJoiner 1 0 0
 unfolding kindOf chosenBy saidBy bitFits maxCount lengthFits roundFits headFits bodyFits readRefusal content frameBytes roundOf entryCount
-    inDirectory sender wellFormed part entries third twoThirds sound frameOf receive roster tally mentioned echoed joined
+    sender wellFormed part entries third twoThirds sound frameOf receive roster tally mentioned echoed joined
     candidatesAfter decides kingAfter bitTaken decisionAfter valueTwoThirds proposalThird proposalTwoThirds proposal bitAdopted strongAfter
     opinion step trayRefusal
 late-joiner = (

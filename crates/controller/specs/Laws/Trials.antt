@@ -1,7 +1,7 @@
 -- The starred trials hold, by computation.
 use mathlib.Core.Path.{refl}
 use Rattle.wire.specs.Frame.{kindOf, saidBy, bitFits, maxCount, lengthFits, roundFits, headFits, bodyFits, readRefusal, content}
-use Rattle.wire.specs.Tray.{roundOf, entryCount, inDirectory, sender, wellFormed, part, entries}
+use Rattle.wire.specs.Tray.{roundOf, entryCount, sender, wellFormed, part, entries}
 use Rattle.wire.specs.Trials.{All}
 use Rattle.controller.specs.Thirds.{third, twoThirds}
 use Rattle.controller.specs.State.{sound}
@@ -17,7 +17,7 @@ _and_ : {A B : Type 0} → A → B → A × B
 a and b = (a, b)
 
 pub trials-hold : All Holds trials
-unfolding kindOf saidBy bitFits maxCount lengthFits roundFits headFits bodyFits readRefusal content roundOf entryCount inDirectory sender
+unfolding kindOf saidBy bitFits maxCount lengthFits roundFits headFits bodyFits readRefusal content roundOf entryCount sender
     wellFormed part entries third twoThirds sound frameOf receive roster step trayRefusal
 trials-hold =
     (refl, refl) and (refl, refl) and (refl, refl) and (refl, refl) and (refl, refl) and

@@ -9,7 +9,7 @@ use mathlib.Core.Bool.{Bool, true, _&&_}
 use mathlib.Core.List.{List, [], _∷_, _++_, map}
 use mathlib.Core.Path.{_≡_, refl}
 use lib.Dec.{eqb, ltb}
-use Rattle.controller.specs.Bytes.{maxFrame, Entry, roundOf, entryCount, inDirectory, sender, wellFormed, part, entries, kindOf, chosenBy, saidBy}
+use Rattle.controller.specs.Bytes.{maxFrame, Entry, roundOf, entryCount, sender, wellFormed, part, entries, kindOf, chosenBy, saidBy}
 use Rattle.controller.specs.Bytes.{bitFits, maxCount, lengthFits, roundFits, headFits, bodyFits, readRefusal, content, frameBytes}
 use Rattle.controller.specs.Lists.{mem, countIf}
 use Rattle.controller.specs.Thirds.{third, twoThirds}
@@ -118,7 +118,7 @@ pub record Tested : Type 0 where
   pub four-late : callTest four (late 14) ≡ true
 
 pub tested : Tested
-unfolding roundOf entryCount inDirectory sender wellFormed part entries
+unfolding roundOf entryCount sender wellFormed part entries
     kindOf chosenBy saidBy bitFits maxCount lengthFits roundFits headFits bodyFits readRefusal content frameBytes
     third twoThirds sound frameOf receive roster tally mentioned echoed joined candidatesAfter decides kingAfter
     bitTaken decisionAfter valueTwoThirds proposalThird proposalTwoThirds proposal bitAdopted strongAfter opinion step startRefusal trayRefusal

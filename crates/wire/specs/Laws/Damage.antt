@@ -14,7 +14,7 @@ use Rattle.wire.specs.Words.{halfAt, wordAt}
 use Rattle.wire.specs.Tray.{Entry, roundOf, entryCount, entryAt, offsetOf, lengthOf, sender, chained, wellFormed, part, entries, overwritten}
 use Rattle.wire.specs.Found.{framesUnder, amongFrames, under, one, several}
 use Rattle.wire.specs.Laws.Found.{under-member}
-use Rattle.wire.specs.Laws.Tray.{part-inside, parts-apart, directory-holds, entries-length, entry-at}
+use Rattle.wire.specs.Laws.Tray.{part-inside, parts-apart, sender-is, entries-length, entry-at}
 
 -- ---- bytes of a part
 
@@ -65,8 +65,7 @@ module _ (s s′ : List ℕ) (as-long : length s′ ≡ length s) (packed : well
   packed-kept = rw (as-long, count-kept, half-kept zeroAt (omega arith), chained-kept (entryCount s) 0 (entryAt (entryCount s)) (omega arith)) packed
 
   sender-kept : (i : ℕ) → i < entryCount s → sender s′ i ≡ sender s i
-  unfolding sender
-  sender-kept i l = rw (directory-holds s packed i l, directory-holds s′ packed-kept i (rw count-kept l)) (word-kept (entryAt i) (omega arith))
+  sender-kept i l = sender-is s′ packed-kept i (rw count-kept l) ∙ word-kept (entryAt i) (omega arith) ∙ sym (sender-is s packed i l)
 
 -- ---- other bytes for one frame
 

@@ -15,7 +15,7 @@ use Rattle.wire.specs.Words.{Below}
 use Rattle.wire.specs.Tray.{Entry, entryCount, entryAt, offsetOf, lengthOf, sender, place, part, entriesFrom, entries, wellFormed}
 use Rattle.wire.specs.Found.{framesUnder, sameBytes, allSame, Under, nothing, one, several, amongFrames, under, firstFrom, answer, found, meaning}
 use Rattle.wire.specs.Found.{noFrame, different, foundBy, sameAt, noteWith, noteFrom}
-use Rattle.wire.specs.Laws.Tray.{directory-holds, part-inside}
+use Rattle.wire.specs.Laws.Tray.{part-inside, place-is}
 use Rattle.wire.specs.declared.found.Found.{Found}
 use Rattle.wire.specs.declared.found.Found.the-variants.{At, Nothing, Several}
 
@@ -132,20 +132,18 @@ found-small k o n h e =
 
 -- the word of an entry is its offset and its length; the frame lies behind the directory, so that the word is no small number
 module _ (s : List ℕ) (packed : wellFormed s ≡ true) (bytes : Below 256 s) where
-  place-is : (i : ℕ) → i < entryCount s → (place s i ≡ offsetOf s i * 65536 + lengthOf s i) × (16 ≤ offsetOf s i) × (lengthOf s i < 65536)
-  unfolding place
-  place-is i h =
-      let inside = part-inside s packed i h in
+  place-parts : (i : ℕ) → i < entryCount s → (place s i ≡ offsetOf s i * 65536 + lengthOf s i) × (16 ≤ offsetOf s i) × (lengthOf s i < 65536)
+  place-parts i h =
       let third : entryAt i + offsetAt + 2 ≡ entryAt i + lengthAt = omega arith in
       let fourth : entryAt i + offsetAt + 3 ≡ entryAt i + lengthAt + 1 = omega arith in (
-        rw (directory-holds s packed i h, third, fourth) (omega arith),
-        omega (arith, inside .0),
+        place-is s packed i h ∙ rw (third, fourth) (omega arith),
+        omega (arith, part-inside s packed i h .0),
         omega (arith, bytes (entryAt i + lengthAt), bytes (entryAt i + lengthAt + 1)),
       )
 
   place-found : (i : ℕ) → i < entryCount s → foundBy (place s i) ≡ At (offsetOf s i) (lengthOf s i)
   place-found i h =
-      let is = place-is i h in
+      let is = place-parts i h in
       let k = place s i in
       let high : k / 65536 ≡ offsetOf s i = omega (arith, is .0, is .2) in
       let low : k % 65536 ≡ lengthOf s i = omega (arith, is .0, is .2) in

@@ -1,23 +1,25 @@
 -- Laws of trays.
-use Prim.Native.Nat.{ℕ, zero, suc, _+_, _-_, _≤_, _<_}
-use mathlib.Core.Bool.{true, _&&_, and-eq-true-iff}
-use mathlib.Core.List.{List}
-use mathlib.Core.Path.{_≡_, refl, ap, subst}
+use Prim.Native.Nat.{ℕ, zero, suc, _+_, _*_, _-_, _/_, _≤_, _<_}
+use mathlib.Core.Bool.{Bool, true, false, cond, _&&_, and-eq-true-iff}
+use mathlib.Core.List.{List, []}
+use mathlib.Core.Path.{_≡_, refl, ap, subst, _∙_}
 use mathlib.Core.Logic.{⊎-elim}
-use borrow.Author.Tests.{leb-true, eqb-true, le-leb}
+use borrow.Author.Tests.{leb-true, eqb-true, le-leb, lt-ltb}
 use native.Mathlib.Nat.{eq-or-lt-of-le}
 use native.Mathlib.Omega.{arith}
 use lib.Dec.{leb, eqb}
-use lib.ListN.{length, getD}
-use Rattle.wire.specs.Limits.{trayHeader, zeroAt, maxTray, maxEntries}
-use Rattle.wire.specs.Words.{halfAt}
-use Rattle.wire.specs.Tray.{Entry, entryCount, entryAt, offsetOf, lengthOf, inDirectory, sender, chained, wellFormed, part, entriesFrom, entries}
+use lib.ListN.{length, getD, take, drop, length-take, length-drop}
+use lib.Seq.{getD-take, getD-drop, length-take-le}
+use Rattle.wire.specs.Limits.{trayHeader, entriesAt, entryWidth, offsetAt, zeroAt, maxTray, maxEntries}
+use Rattle.wire.specs.Laws.Words.{half-below}
+use Rattle.wire.specs.Words.{Below, halfAt, wordAt}
+use Rattle.wire.specs.Tray.{Entry, entryCount, entryAt, offsetOf, lengthOf, directory, wordOf, sender, place, chained, wellFormed, part, entriesFrom, entries}
 
 -- ---- the directory
 
-pub in-directory-gives : (s : List ℕ) (i : ℕ) → inDirectory s i ≡ true → entryAt (i + 1) ≤ length s
-unfolding inDirectory
-in-directory-gives s i h = leb-true _ _ h
+pub entry-count-below : (s : List ℕ) → Below 256 s → entryCount s < 65536
+unfolding entryCount
+entry-count-below s b = half-below s b entriesAt (leb trayHeader (length s))
 
 -- one step along the directory, as a loop over it takes it
 pub chained-step : (s : List ℕ) (n i at : ℕ) → i < n → chained s (n - i) i at ≡ (eqb (offsetOf s i) at && chained s (n - (i + 1)) (i + 1) (at + lengthOf s i))
@@ -98,11 +100,50 @@ chained-apart s (suc n) k at i j h a l u =
 pub parts-apart : (s : List ℕ) → wellFormed s ≡ true → (i j : ℕ) → i < j → j < entryCount s → offsetOf s i + lengthOf s i ≤ offsetOf s j
 parts-apart s h i j l u = chained-apart s (entryCount s) 0 (entryAt (entryCount s)) i j (well-formed-gives s h .frames) (omega arith) l (omega arith)
 
-pub directory-holds : (s : List ℕ) → wellFormed s ≡ true → (i : ℕ) → i < entryCount s → inDirectory s i ≡ true
-unfolding inDirectory
-directory-holds s h i l =
-    let d = well-formed-gives s h .directory in
-    le-leb (entryAt (i + 1)) (length s) (omega arith)
+-- ---- the bytes of a part
+
+pub part-byte : (s : List ℕ) (o n k : ℕ) → k < length (part s o n) → getD (part s o n) k 0 ≡ getD s (o + k) 0
+unfolding part
+part-byte s o n k = pick (leb (o + n) (length s))
+  where
+    pick : (t : Bool) → k < length (cond t (take n (drop o s)) []) → getD (cond t (take n (drop o s)) []) k 0 ≡ getD s (o + k) 0
+    pick true h = getD-take n (drop o s) k 0 (omega (arith, length-take n (drop o s))) ∙ getD-drop o s k 0
+    pick false h = absurd (omega arith)
+
+pub part-length : (s : List ℕ) (o n : ℕ) → o + n ≤ length s → length (part s o n) ≡ n
+unfolding part
+part-length s o n h = rw (le-leb (o + n) (length s) h) (length-take-le n (drop o s) (omega (arith, length-drop o s)))
+
+-- the words of an entry, which lie behind the header
+module _ (s : List ℕ) (h : wellFormed s ≡ true) where
+  pub directory-length : length (directory s) ≡ entryWidth * entryCount s
+  directory-length = part-length s trayHeader (entryWidth * entryCount s) (omega (arith, well-formed-gives s h .directory))
+
+  pub directory-word : (i at : ℕ) → i < entryCount s → at + 4 ≤ entryWidth → wordOf (directory s) i at ≡ wordAt s (entryAt i + at)
+  directory-word i at l u =
+      let d = directory s in
+      let size = directory-length in
+      let counted : length d / entryWidth ≡ entryCount s = omega (arith, size) in
+      let byte : (p q : ℕ) → p < length d → trayHeader + p ≡ q → getD d p 0 ≡ getD s q 0 =
+      λ p q m e. part-byte s trayHeader (entryWidth * entryCount s) p m ∙ ap (λ (k : ℕ). getD s k 0) e in
+      let from = entryWidth * i + at in
+      let to = entryAt i + at in
+      rw (
+        counted,
+        lt-ltb i (entryCount s) l,
+        byte from to (omega (arith, size)) (omega arith),
+        byte (from + 1) (to + 1) (omega (arith, size)) (omega arith),
+        byte (from + 2) (to + 2) (omega (arith, size)) (omega arith),
+        byte (from + 3) (to + 3) (omega (arith, size)) (omega arith),
+      )
+
+  pub sender-is : (i : ℕ) → i < entryCount s → sender s i ≡ wordAt s (entryAt i)
+  unfolding sender
+  sender-is i l = let e : entryAt i + 0 ≡ entryAt i = omega arith in directory-word i 0 l (omega arith) ∙ ap (wordAt s) e
+
+  pub place-is : (i : ℕ) → i < entryCount s → place s i ≡ wordAt s (entryAt i + offsetAt)
+  unfolding place
+  place-is i l = directory-word i offsetAt l (omega arith)
 
 -- ---- the tray as a list of entries
 

@@ -12,10 +12,11 @@ use borrow.Author.Tests.{leb-true}
 use denote.Enum.Declared.{tagOf}
 use denote.Ref.{now}
 use lib.Dec.{leb}
-use lib.ListN.{length, getD, take, drop, length-take, length-drop}
-use lib.Seq.{getD-take, getD-drop, length-take-le}
+use lib.ListN.{length, getD, take, drop, length-drop}
+use lib.Seq.{length-take-le}
 use Rattle.wire.specs.Frame.{Content, content, countOf}
 use Rattle.wire.specs.Laws.Frame.{read-numbers}
+use Rattle.wire.specs.Laws.Tray.{part-byte}
 use Rattle.wire.specs.Laws.Words.{words-length}
 use Rattle.wire.specs.Limits.{frameHeader, numberWidth}
 use Rattle.wire.proofs.found.Found.{the-type}
@@ -52,14 +53,6 @@ module _ (b : List ℕ) (o n : ℕ) where
           let inside : o + n ≤ length b = leb-true (o + n) (length b) e in
           omega (arith, length-take-le n (drop o b) (omega (arith, length-drop o b)))
       pick false e h = absurd (omega arith)
-
-  part-byte : (k : ℕ) → k < length (part b o n) → getD (part b o n) k 0 ≡ getD b (o + k) 0
-  unfolding part
-  part-byte k = pick (leb (o + n) (length b))
-    where
-      pick : (t : Bool) → k < length (cond t (take n (drop o b)) []) → getD (cond t (take n (drop o b)) []) k 0 ≡ getD b (o + k) 0
-      pick true h = getD-take n (drop o b) k 0 (omega (arith, length-take n (drop o b))) ∙ getD-drop o b k 0
-      pick false h = absurd (omega arith)
 
 -- the numbers of what is read lie one behind the other from the header's end on, and the bytes hold them all
 numbers-lie : (s : List ℕ) (t n : ℕ) (o : Option Content) → content s t ≡ o → n ≡ length (listIn o)

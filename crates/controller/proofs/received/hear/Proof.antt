@@ -1,5 +1,5 @@
 -- `controller::received::hear` meets its contract: before each entry, those behind it are heard and noted.
-use Prim.Native.Nat.{ℕ, _+_, _-_, _≤_, _<_}
+use Prim.Native.Nat.{ℕ, _+_, _-_, _/_, _≤_, _<_}
 use mathlib.Core.Bool.{true, false}
 use mathlib.Core.List.{List, Memᴰ·cast}
 use mathlib.Core.Logic.{inl, inr}
@@ -7,11 +7,12 @@ use mathlib.Core.Path.{_≡_, sym, ap, subst, _∙_}
 use native.Mathlib.Omega.{arith}
 use borrow.Author.Needs.{needs}
 use denote.Ref.{now}
-use lib.ListN.{getD}
+use lib.ListN.{length, getD}
 use Rattle.wire.specs.Found.{noteWith}
-use Rattle.wire.specs.Limits.{maxNumbers}
+use Rattle.wire.specs.Laws.Tray.{directory-length}
+use Rattle.wire.specs.Limits.{maxNumbers, entryWidth, offsetAt}
 use Rattle.wire.specs.Numbers.{stored, listed}
-use Rattle.wire.specs.Tray.{entryCount, sender}
+use Rattle.wire.specs.Tray.{entryCount, wordOf, sender, place}
 use Rattle.wire.specs.Words.{Below}
 use Rattle.wire.specs.declared.frame.Numbers.{Numbers}
 use Rattle.controller.specs.Lists.{In}
@@ -24,11 +25,11 @@ use Rattle.controller.proofs.received.hear.Statement.{statement}
 use Rattle.controller.proofs.received.hear.Tie as tie
 
 abbrev Inv-loop : tie.InvT-loop
-Inv-loop tray own heard₀ len notes₀ n₀ next₀ i₀ heard notes n next i =
+Inv-loop tray own heard₀ len notes₀ entries n₀ next₀ i₀ heard notes n next i =
     HearsFrom own tray (listed (record { len = len; at = heard₀ })) (record { len = n; at = heard }) notes i
 
 abbrev μ-loop : tie.MeasureT-loop
-μ-loop tray own heard₀ len notes₀ n₀ next₀ i₀ heard notes n next i = i
+μ-loop tray own heard₀ len notes₀ entries n₀ next₀ i₀ heard notes n next i = i
 
 -- what was given, as seen from a turn of the loop; the list so far
 abbrev given : tie.At-loop Inv-loop μ-loop → tie.Start Inv-loop μ-loop
@@ -59,13 +60,34 @@ so-far c =
     let l = listed (record { len = a .len; at = now (a .heard) }) in
     subst (HearsFrom (a .own) (now (a .tray)) l (list (c .before)) (c .before .loop .notes)) back (c .before .loop .inv)
 
-entry-count-requires : tie.Need-entry-count-requires Inv-loop μ-loop
-entry-count-requires c κs = search needs
+directory-requires : tie.Need-directory-requires Inv-loop μ-loop
+directory-requires c κs = search needs
 
 loop-holds : tie.Need-loop-holds Inv-loop μ-loop
 loop-holds c =
     let start = c .before .before in
-    hears-none _ _ (record { len = start .args .len; at = now (start .args .heard) }) _ _ (c .entry-count .ensures) (start .pre .1) (start .pre .2)
+    let b = now (start .args .tray) in
+    let size = ap length (c .directory .ensures) ∙ directory-length b (start .pre .0) in
+    let count : length (now (c .directory .result)) / entryWidth ≡ entryCount b = omega (arith, size) in
+    hears-none _ b (record { len = start .args .len; at = now (start .args .heard) }) _ _ count (start .pre .1) (start .pre .2)
+
+-- what an entry has, of the directory and so of the tray
+abbrev entries : tie.At-loop Inv-loop μ-loop → List ℕ
+entries c = now (c .before .directory .result)
+
+sent : (c : tie.At-loop Inv-loop μ-loop) (i x : ℕ) → x ≡ wordOf (entries c) i 0 → x ≡ sender (now (given c .args .tray)) i
+unfolding sender
+sent c i x e = e ∙ ap (λ (d : List ℕ). wordOf d i 0) (c .before .directory .ensures)
+
+placed : (c : tie.At-loop Inv-loop μ-loop) (i x : ℕ) → x ≡ wordOf (entries c) i offsetAt → x ≡ place (now (given c .args .tray)) i
+unfolding place
+placed c i x e = e ∙ ap (λ (d : List ℕ). wordOf d i offsetAt) (c .before .directory .ensures)
+
+-- the sender of a turn's entry
+sender-read : (c : tie.After-entry-sender Inv-loop μ-loop)
+    → let at = c .before in
+    c .entry-sender .result ≡ sender (now (given (at .before) .args .tray)) (entry at)
+sender-read c = sent (c .before .before) (entry (c .before)) _ (c .entry-sender .ensures)
 
 sub-i : tie.Need-sub-i Inv-loop μ-loop
 sub-i c = search needs
@@ -89,7 +111,7 @@ asked c = turn (other (near c))
 returns : tie.Need-returns Inv-loop μ-loop
 returns c =
     let at = c .before .before in
-    hears-own _ _ _ (entry at) _ _ (counted at) (sym (c .before .entry-sender .ensures) ∙ c .if1 .taken)
+    hears-own _ _ _ (entry at) _ _ (counted at) (sym (sender-read (c .before)) ∙ c .if1 .taken)
 
 place-near-requires : tie.Need-place-near-requires Inv-loop μ-loop
 place-near-requires c κs = turn (c .before) .before .loop .inv .sound
@@ -102,7 +124,7 @@ sender-place : (c : tie.After-place-near Inv-loop μ-loop)
     → let at = turn (other c) in
     c .place-near .result ≡ below (sender (now (given (at .before) .args .tray)) (entry at)) (listed (list (at .before)))
 sender-place c =
-    c .place-near .ensures ∙ ap (λ (x : ℕ). below x (listed (list (turn (other c) .before)))) (other c .before .entry-sender .ensures)
+    c .place-near .ensures ∙ ap (λ (x : ℕ). below x (listed (list (turn (other c) .before)))) (sender-read (other c .before))
 
 place-small : (c : tie.After-place-near Inv-loop μ-loop) → c .place-near .result ≤ turn (other c) .before .loop .n
 place-small c =
@@ -112,19 +134,19 @@ place-small c =
 another : (c : tie.After-place-near Inv-loop μ-loop)
     → let at = turn (other c) in
     sender (now (given (at .before) .args .tray)) (entry at) ≡ given (at .before) .args .own → ⊥
-another c e = other c .if1 .left (other c .before .entry-sender .ensures ∙ e)
+another c e = other c .if1 .left (sender-read (other c .before) ∙ e)
 
 -- it is heard already, or it is not
 known : (c : tie.After-has-at Inv-loop μ-loop) → c .has-at .result ≡ true
     → let at = asked c in
     In (sender (now (given (at .before) .args .tray)) (entry at)) (listed (list (at .before)))
-known c t = Memᴰ·cast (sym (other (near c) .before .entry-sender .ensures)) (mem-in (listed (list (asked c .before))) (sym (c .has-at .ensures) ∙ t))
+known c t = Memᴰ·cast (sym (sender-read (other (near c) .before))) (mem-in (listed (list (asked c .before))) (sym (c .has-at .ensures) ∙ t))
 
 unknown : (c : tie.After-has-at Inv-loop μ-loop) → c .has-at .result ≡ false
     → let at = asked c in
     In (sender (now (given (at .before) .args .tray)) (entry at)) (listed (list (at .before))) → ⊥
 unknown c t i =
-    mem-out (listed (list (asked c .before))) (sym (c .has-at .ensures) ∙ t) (Memᴰ·cast (other (near c) .before .entry-sender .ensures) i)
+    mem-out (listed (list (asked c .before))) (sym (c .has-at .ensures) ∙ t) (Memᴰ·cast (sender-read (other (near c) .before)) i)
 
 known-place : (c : tie.Then2 Inv-loop μ-loop) → near (c .before) .place-near .result < maxNumbers
 known-place c =
@@ -158,7 +180,7 @@ returns-2 : tie.Need-returns-2 Inv-loop μ-loop
 returns-2 c =
     let has = c .before .before in
     let at = asked has in
-    hears-zero _ _ _ (entry at) _ _ (counted at) (sym (other (near has) .before .entry-sender .ensures) ∙ c .if3 .taken)
+    hears-zero _ _ _ (entry at) _ _ (counted at) (sym (sender-read (other (near has) .before)) ∙ c .if3 .taken)
 
 returns-3 : tie.Need-returns-3 Inv-loop μ-loop
 returns-3 c =
@@ -209,15 +231,16 @@ loop-again c =
     elim (join .came) [
       | inl t ↦
           moved (hears-known (counted at) (so-far at) (known has (t .0 .taken)) (another near) p (t .3 .result) (sender-place near)
-          (t .3 .ensures ∙ ap (noteWith b (getD (v .notes) p 0)) (t .2 .ensures)))
+          (t .3 .ensures ∙ ap (noteWith b (getD (v .notes) p 0)) (placed (at .before) (entry at) _ (t .2 .ensures))))
           (join .n) (join .heard) (join .notes) (t .6) (t .4) (t .5)
       | inr u ↦
-          let sent = other near .before .entry-sender in
+          let read = sender-read (other near .before) in
           let l = listed (list (at .before)) in
           let longer : _≡_ {A = Numbers} (record { len = v .n + 1; at = u .4 .last .0 }) (stored (insertedAt p (sender b (entry at)) l)) =
-          u .4 .ensures ∙ ap (λ (x : ℕ). stored (insertedAt p x l)) (sent .ensures) in
-          moved (hears-new (counted at) (so-far at) (unknown has (u .0 .left)) p (sender-place near) (u .2 .left) (λ z. u .1 .left (sent .ensures ∙ z))
-          (another near) _ longer (u .7 .last .0) (u .7 .ensures ∙ ap (λ (w : ℕ). opened p w (v .n) (v .notes)) (u .6 .ensures)))
+          u .4 .ensures ∙ ap (λ (x : ℕ). stored (insertedAt p x l)) read in
+          let opens = u .7 .ensures ∙ ap (λ (w : ℕ). opened p w (v .n) (v .notes)) (placed (at .before) (entry at) _ (u .6 .ensures)) in
+          moved (hears-new (counted at) (so-far at) (unknown has (u .0 .left)) p (sender-place near) (u .2 .left) (λ z. u .1 .left (read ∙ z))
+          (another near) _ longer (u .7 .last .0) opens)
           (join .n) (join .heard) (join .notes) (u .10) (u .8) (u .9)
     ]
 
@@ -235,7 +258,7 @@ hear-spec =
     (tie.spec
     Inv-loop
     μ-loop
-    entry-count-requires
+    directory-requires
     loop-holds
     sub-i
     entry-sender-requires

@@ -1,4 +1,4 @@
--- Laws of what a step finds: those heard, the first entry of each of them, and what is received under each.
+-- Laws of what a step finds: those heard, the note on each of them, and what is received under each.
 use Prim.Native.Nat.{ℕ, _+_, _≤_, _<_}
 use mathlib.Core.Bool.{true, false, cond}
 use mathlib.Core.List.{List}
