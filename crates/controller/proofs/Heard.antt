@@ -8,7 +8,8 @@ use mathlib.Core.Path.{_≡_, sym, ap, subst, _∙_}
 use borrow.Author.Tests.{le-leb, leb-true}
 use lib.Dec.{leb}
 use lib.ListN.{length, getD}
-use Rattle.wire.specs.Found.{found, foundBy}
+use Rattle.wire.specs.Found.{found}
+use Rattle.wire.specs.Notes.{foundBy}
 use Rattle.wire.specs.Limits.{maxNumbers}
 use Rattle.wire.specs.Laws.Numbers.{listed-stored}
 use Rattle.wire.specs.Numbers.{stored, listed}

@@ -8,7 +8,7 @@ ghost use Rattle.wire.specs.Lent.{before, after};
 ghost use Rattle.wire.specs.Frame.{content, kindOf, bitIn};
 ghost use Rattle.wire.specs.Limits.{maxNumbers};
 ghost use Rattle.wire.specs.Numbers.{listed};
-ghost use Rattle.wire.specs.Found.{noFrame};
+ghost use Rattle.wire.specs.Notes.{noFrame};
 ghost use Rattle.wire.specs.Tray.{wellFormed, entries};
 ghost use Rattle.controller.specs.State.{soundList};
 ghost use Rattle.controller.specs.Received.{senders, readIn};

@@ -3,6 +3,7 @@ pub mod Causes
 pub mod Damage
 pub mod Found
 pub mod Frame
+pub mod Notes
 pub mod Numbers
 pub mod Stores
 pub mod Tray

@@ -7,5 +7,6 @@ pub mod Refusal
 pub mod Frame
 pub mod Tray
 pub mod Found
+pub mod Notes
 pub mod Trials
 pub mod Laws

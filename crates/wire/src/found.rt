@@ -4,7 +4,8 @@ ghost use mathlib.Core.Path.{_≡_};
 ghost use Prim.Native.Nat.{_+_, _≤_};
 ghost use lib.ListN.{length, take, drop};
 ghost use Rattle.wire.specs.Lent.{before};
-ghost use Rattle.wire.specs.Found.{foundBy, sameBytes, sameFrames, noteWith};
+ghost use Rattle.wire.specs.Found.{sameBytes};
+ghost use Rattle.wire.specs.Notes.{foundBy, sameFrames, noteWith};
 
 // Where a number's frame lies, offset and length (of equal copies, the first); or that it has none, or several that differ.
 pub enum Found {

@@ -22,7 +22,8 @@ use lib.ListN.{length, getD}
 use Rattle.wire.specs.Lent.{before}
 use Rattle.wire.specs.Limits.{maxNumbers}
 use Rattle.wire.specs.Numbers.{stored, listed}
-use Rattle.wire.specs.Found.{Under, meaning, found, foundBy}
+use Rattle.wire.specs.Found.{Under, meaning, found}
+use Rattle.wire.specs.Notes.{foundBy}
 use Rattle.wire.specs.Tray.{wellFormed, entries}
 use Rattle.wire.specs.Frame.{Content, kindOf, maxCount, bitIn}
 use Rattle.wire.specs.declared.frame.Numbers.{Numbers}

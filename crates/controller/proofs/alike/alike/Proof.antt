@@ -7,8 +7,8 @@ use native.Mathlib.Omega.{arith}
 use borrow.Author.Needs.{needs}
 use denote.Ref.{now}
 use lib.ListN.{getD}
-use Rattle.wire.specs.Found.{foundBy}
-use Rattle.wire.specs.Laws.Found.{same-meaning}
+use Rattle.wire.specs.Notes.{foundBy}
+use Rattle.wire.specs.Laws.Notes.{same-meaning}
 use Rattle.controller.specs.Work.Alike.{Alike}
 use Rattle.controller.specs.Work.Received.{noted}
 use Rattle.controller.proofs.alike.alike.Statement.{statement}

@@ -20,8 +20,9 @@ use Rattle.wire.specs.Laws.Tray.{part-byte}
 use Rattle.wire.specs.Laws.Words.{words-length}
 use Rattle.wire.specs.Limits.{frameHeader, numberWidth}
 use Rattle.wire.proofs.found.Found.{the-type}
-use Rattle.wire.specs.Found.{foundBy, meaning}
-use Rattle.wire.specs.Laws.Found.{found-small}
+use Rattle.wire.specs.Found.{meaning}
+use Rattle.wire.specs.Notes.{foundBy}
+use Rattle.wire.specs.Laws.Notes.{found-small}
 use Rattle.wire.specs.Tray.{part}
 use Rattle.wire.specs.Words.{wordsAt}
 use Rattle.wire.specs.declared.found.Found.{Found}

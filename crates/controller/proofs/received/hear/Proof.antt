@@ -8,7 +8,7 @@ use native.Mathlib.Omega.{arith}
 use borrow.Author.Needs.{needs}
 use denote.Ref.{now}
 use lib.ListN.{length, getD}
-use Rattle.wire.specs.Found.{noteWith}
+use Rattle.wire.specs.Notes.{noteWith}
 use Rattle.wire.specs.Laws.Tray.{directory-length}
 use Rattle.wire.specs.Limits.{maxNumbers, entryWidth, offsetAt}
 use Rattle.wire.specs.Numbers.{stored, listed}

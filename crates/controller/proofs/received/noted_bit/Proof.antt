@@ -10,7 +10,8 @@ use denote.Ref.{now}
 use Rattle.controller.specs.Received.{readIn}
 use Rattle.controller.specs.Work.Received.{noted}
 use Rattle.wire.proofs.found.Found.{the-type}
-use Rattle.wire.specs.Found.{foundBy, meaning}
+use Rattle.wire.specs.Found.{meaning}
+use Rattle.wire.specs.Notes.{foundBy}
 use Rattle.wire.specs.Frame.{content, bitIn}
 use Rattle.wire.specs.Tray.{part}
 use Rattle.wire.specs.declared.found.Found.{Found}

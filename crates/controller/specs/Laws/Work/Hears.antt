@@ -11,8 +11,8 @@ use borrow.Author.Tests.{eq-eqb, ne-eqb, lt-leb, le-ltb}
 use lib.Dec.{leb, eqb, ltb}
 use lib.ListN.{length, getD, set, replicate, length-set, length-replicate, getD-replicate}
 use lib.Seq.{getD-set-same, getD-set-other}
-use Rattle.wire.specs.Found.{noFrame, foundBy, noteWith, noteFrom}
-use Rattle.wire.specs.Laws.Found.{note-found, note-none}
+use Rattle.wire.specs.Notes.{noFrame, foundBy, noteWith, noteFrom}
+use Rattle.wire.specs.Laws.Notes.{note-found, note-none}
 use Rattle.wire.specs.Laws.Numbers.{listed-stored}
 use Rattle.wire.specs.Limits.{maxNumbers}
 use Rattle.wire.specs.Numbers.{stored, listed}

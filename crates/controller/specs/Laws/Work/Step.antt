@@ -11,7 +11,8 @@ use Rattle.wire.specs.Frame.{kindOf}
 use Rattle.wire.specs.Laws.Numbers.{listed-stored}
 use Rattle.wire.specs.Limits.{maxNumbers}
 use Rattle.wire.specs.Numbers.{stored, listed}
-use Rattle.wire.specs.Found.{found, foundBy}
+use Rattle.wire.specs.Found.{found}
+use Rattle.wire.specs.Notes.{foundBy}
 use Rattle.wire.specs.Tray.{wellFormed, entries}
 use Rattle.wire.specs.declared.frame.Numbers.{Numbers}
 use Rattle.controller.specs.Work.Lists.{inPlaces}

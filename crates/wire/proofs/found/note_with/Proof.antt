@@ -7,7 +7,7 @@ use mathlib.Core.Path.{_≡_, sym, ap, _∙_}
 use borrow.Author.Needs.{needs}
 use borrow.Author.Tests.{eq-eqb, ne-eqb}
 use denote.Ref.{now}
-use Rattle.wire.specs.Found.{noFrame, different, sameFrames, noteWith}
+use Rattle.wire.specs.Notes.{noFrame, different, sameFrames, noteWith}
 use Rattle.wire.proofs.found.note_with.Statement.{statement}
 use Rattle.wire.proofs.found.note_with.Tie as tie
 

@@ -12,8 +12,9 @@ use denote.Ref.{now}
 use lib.Dec.{leb}
 use lib.ListN.{length, take, drop}
 use Rattle.wire.proofs.found.Found.{the-type}
-use Rattle.wire.specs.Found.{foundBy, sameBytes, sameAt, sameFrames}
-use Rattle.wire.specs.Laws.Found.{found-small}
+use Rattle.wire.specs.Found.{sameBytes}
+use Rattle.wire.specs.Notes.{foundBy, sameAt, sameFrames}
+use Rattle.wire.specs.Laws.Notes.{found-small}
 use Rattle.wire.specs.Tray.{part}
 use Rattle.wire.specs.declared.found.Found.{Found}
 use Rattle.wire.specs.declared.found.Found.the-variants.{At, Nothing, Several}
