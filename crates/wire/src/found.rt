@@ -1,5 +1,5 @@
-// What a tray has under a number: one frame, none, or several that differ. Who goes along a directory, from its end to its front, keeps a note for each
-// number; specs/Found.antt says what a note is and what it tells.
+// What a tray has under a number: one frame, none, or several that differ (specs/Found.antt). Who goes along a directory, from its end to its front, keeps
+// a note for each number; specs/Notes.antt says what that tells.
 ghost use mathlib.Core.Path.{_≡_};
 ghost use Prim.Native.Nat.{_+_, _≤_};
 ghost use lib.ListN.{length, take, drop};

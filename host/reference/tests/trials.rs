@@ -59,6 +59,18 @@ fn tray_of_one(offset: u8) -> Vec<u8> {
     tray
 }
 
+/// A tray of round 1 with these frames under number 9.
+fn tray_of(frames: &[&[u8]]) -> Vec<u8> {
+    let mut tray = vec![0, 0, 0, 1, 0, frames.len() as u8, 0, 0];
+    let mut offset = 8 + 8 * frames.len();
+    for frame in frames {
+        tray.extend([0, 0, 0, 9, 0, offset as u8, 0, frame.len() as u8]);
+        offset += frame.len();
+    }
+    tray.extend(frames.concat());
+    tray
+}
+
 fn roster(numbers: &[u32]) -> Vec<u8> {
     let mut bytes = vec![0, 0, 0, 2, 2, 2, 0, numbers.len() as u8];
     bytes.extend(numbers.iter().flat_map(|n| n.to_be_bytes()));
@@ -172,6 +184,31 @@ fn the_listing() {
         "6 3 1 0 1 1 0 1",
     ];
     assert_eq!(lines, expected);
+}
+
+/// Request A5. The fourth column is how many the roster lists: who sent one init.
+#[test]
+fn frames_that_differ_are_heard_and_say_nothing() {
+    let (late, other): (&[u8], &[u8]) = (&[0, 0, 0, 2, 1, 2, 0, 0], &[1]);
+    let (good, none): (&[u8], &[u8]) = (&INIT, &[]);
+    let said = |frames: &[&[u8]]| {
+        let mut c = Controller::start(7, 1);
+        assert_eq!(c.tray(&tray_of(frames)), WORKED);
+        c.line()
+    };
+    for copies in [&[good][..], &[good, good], &[good, good, good]] {
+        assert_eq!(said(copies), "2 2 2 2 2 0 0 2", "{copies:?}");
+    }
+    let differ = [
+        [good, late],
+        [late, good],
+        [good, none],
+        [none, good],
+        [late, other],
+    ];
+    for frames in differ.iter().chain(&[[late, late], [none, none]]) {
+        assert_eq!(said(frames), "2 2 2 1 2 0 0 2", "{frames:?}");
+    }
 }
 
 #[test]
