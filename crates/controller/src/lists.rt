@@ -9,7 +9,7 @@ ghost use Rattle.wire.specs.Limits.{maxNumbers};
 ghost use Rattle.wire.specs.Numbers.{stored, listed};
 ghost use Rattle.controller.specs.Lists.{mem, Rising};
 ghost use Rattle.controller.specs.State.{soundList};
-ghost use Rattle.controller.specs.Work.Lists.{inPlaces, below, insertedAt, opened};
+ghost use Rattle.controller.specs.Work.Lists.{inPlaces, below, foundIn, insertedAt, opened};
 use wire::frame::Numbers;
 use wire::limits::MAX_NUMBERS;
 
@@ -40,17 +40,26 @@ pub(crate) fn place_in(at: &[u32; MAX_NUMBERS], len: usize, x: u32) -> usize
     low
 }
 
-// The same, by a look at a likely place first: directories mostly go by rising senders.
-pub(crate) fn place_near(at: &[u32; MAX_NUMBERS], len: usize, x: u32, guess: usize) -> usize
+// Added to a place where a number belongs, and is not.
+pub(crate) const ABSENT: usize = 128;
+
+// The place of `x`; where it is not in the list, the place where it belongs, and `ABSENT` more. A likely place is looked at first: directories mostly
+// go by rising senders.
+pub(crate) fn find_near(at: &[u32; MAX_NUMBERS], len: usize, x: u32, guess: usize) -> usize
     requires { ⌜ soundList (inPlaces len (now at)) ≡ true ⌝ }
-    ensures { λ r. ⌜ r ≡ below x (listed (inPlaces len (before at))) ⌝ }
+    ensures { λ r. ⌜ r ≡ foundIn x (listed (inPlaces len (before at))) ⌝ }
 {
     if guess < len {
         if at[guess] == x {
             return guess;
         }
     }
-    place_in(at, len, x)
+    let place = place_in(at, len, x);
+    if has_at(at, len, place, x) {
+        place
+    } else {
+        ABSENT + place
+    }
 }
 
 // The place where `x` stands or belongs in a rising list, searched from a place on that is not behind it.

@@ -14,10 +14,10 @@ ghost use Rattle.controller.specs.State.{soundList};
 ghost use Rattle.controller.specs.Received.{senders, readIn};
 ghost use Rattle.controller.specs.Work.Received.{noted, othersOnly, receivedBy, Hears, bitUnder, CountsBits, WhereReady, sentCount, CountsFew};
 ghost use Rattle.controller.specs.Work.Lists.{inPlaces};
-use crate::lists::has_at;
+use crate::lists::ABSENT;
+use crate::lists::find_near;
 use crate::lists::insert_at;
 use crate::lists::open_at;
-use crate::lists::place_near;
 use crate::state::Fields;
 use wire::found::Found;
 use wire::found::found_by;
@@ -81,8 +81,9 @@ pub(crate) fn hear(
         if x == own {
             return TOO_MANY;
         }
-        let j = place_near(heard, n, x, next);
-        if has_at(heard, n, j, x) {
+        let found = find_near(heard, n, x, next);
+        let j = found % ABSENT;
+        if found < ABSENT {
             notes[j] = note_with(tray, notes[j], entry_place(entries, i));
         } else {
             if x == 0 {

@@ -1,7 +1,6 @@
 -- `controller::received::hear` meets its contract: before each entry, those behind it are heard and noted.
-use Prim.Native.Nat.{ℕ, _+_, _-_, _/_, _≤_, _<_}
-use mathlib.Core.Bool.{true, false}
-use mathlib.Core.List.{List, Memᴰ·cast}
+use Prim.Native.Nat.{ℕ, _+_, _-_, _/_, _%_, _≤_, _<_}
+use mathlib.Core.List.{List}
 use mathlib.Core.Logic.{inl, inr}
 use mathlib.Core.Path.{_≡_, sym, ap, subst, _∙_}
 use native.Mathlib.Omega.{arith}
@@ -15,12 +14,12 @@ use Rattle.wire.specs.Numbers.{stored, listed}
 use Rattle.wire.specs.Tray.{entryCount, wordOf, sender, place}
 use Rattle.wire.specs.Words.{Below}
 use Rattle.wire.specs.declared.frame.Numbers.{Numbers}
-use Rattle.controller.specs.Lists.{In}
-use Rattle.controller.specs.Laws.Lists.{mem-in, mem-out}
+use Rattle.controller.specs.Lists.{In, mem}
+use Rattle.controller.specs.Laws.Lists.{true-or-false, mem-in, mem-out}
 use Rattle.controller.specs.Laws.State.{ListTests, sound-list-gives}
 use Rattle.controller.specs.Laws.Work.Hears.{HearsFrom, hears-none, known-short, hears-known, hears-new, hears-all, hears-own, hears-zero, hears-full}
 use Rattle.controller.specs.Laws.Work.Lists.{below-length}
-use Rattle.controller.specs.Work.Lists.{below, insertedAt, opened}
+use Rattle.controller.specs.Work.Lists.{below, absent, foundIn, insertedAt, opened}
 use Rattle.controller.proofs.received.hear.Statement.{statement}
 use Rattle.controller.proofs.received.hear.Tie as tie
 
@@ -95,65 +94,75 @@ sub-i c = search needs
 entry-sender-requires : tie.Need-entry-sender-requires Inv-loop μ-loop
 entry-sender-requires c κs = search needs
 
--- the sender's place that was asked for; its sender, which is not the own number; and the turn
-abbrev near : tie.After-has-at Inv-loop μ-loop → tie.After-place-near Inv-loop μ-loop
-near c = c .before .before
-
-abbrev other : tie.After-place-near Inv-loop μ-loop → tie.Else1 Inv-loop μ-loop
+-- the sender that was looked for, which is not the own number; and the turn
+abbrev other : tie.After-find-near Inv-loop μ-loop → tie.Else1 Inv-loop μ-loop
 other c = c .before .before
 
 abbrev turn : tie.Else1 Inv-loop μ-loop → tie.In-loop Inv-loop μ-loop
 turn c = c .before .before
 
-abbrev asked : tie.After-has-at Inv-loop μ-loop → tie.In-loop Inv-loop μ-loop
-asked c = turn (other (near c))
+abbrev asked : tie.After-find-near Inv-loop μ-loop → tie.In-loop Inv-loop μ-loop
+asked c = turn (other c)
 
 returns : tie.Need-returns Inv-loop μ-loop
 returns c =
     let at = c .before .before in
     hears-own _ _ _ (entry at) _ _ (counted at) (sym (sender-read (c .before)) ∙ c .if1 .taken)
 
-place-near-requires : tie.Need-place-near-requires Inv-loop μ-loop
-place-near-requires c κs = turn (c .before) .before .loop .inv .sound
+find-near-requires : tie.Need-find-near-requires Inv-loop μ-loop
+find-near-requires c κs = turn (c .before) .before .loop .inv .sound
 
-has-at-requires : tie.Need-has-at-requires Inv-loop μ-loop
-has-at-requires c κs = let at = c .before in (turn (other at) .before .loop .inv .sound, at .place-near .ensures)
+-- what is found of a number in a list of at most 64: whether it is there, and its place
+module _ (x r : ℕ) (l : List ℕ) (short : length l ≤ maxNumbers) (found : r ≡ foundIn x l) where
+  found-known : r < absent → In x l
+  found-known h = elim (true-or-false (mem x l)) [
+    | inl t ↦ mem-in l t
+    | inr t ↦ let e : r ≡ absent + below x l = found ∙ rw t in absurd (omega arith)
+  ]
 
--- where the sender stands or belongs
-sender-place : (c : tie.After-place-near Inv-loop μ-loop)
-    → let at = turn (other c) in
-    c .place-near .result ≡ below (sender (now (given (at .before) .args .tray)) (entry at)) (listed (list (at .before)))
-sender-place c =
-    c .place-near .ensures ∙ ap (λ (x : ℕ). below x (listed (list (turn (other c) .before)))) (sender-read (other c .before))
+  found-unknown : absent ≤ r → (In x l → ⊥)
+  found-unknown h = elim (true-or-false (mem x l)) [
+    | inl t ↦ let e : r ≡ below x l = found ∙ rw t in absurd (omega (arith, below-length x l))
+    | inr t ↦ mem-out l t
+  ]
 
-place-small : (c : tie.After-place-near Inv-loop μ-loop) → c .place-near .result ≤ turn (other c) .before .loop .n
-place-small c =
-    let at = turn (other c) .before in
-    omega (arith, c .place-near .ensures, below-length (other c .before .entry-sender .result) (listed (list at)), tests at .used)
+  found-place : r % absent ≡ below x l
+  found-place = elim (true-or-false (mem x l)) [
+    | inl t ↦ let e : r ≡ below x l = found ∙ rw t in omega (arith, below-length x l)
+    | inr t ↦ let e : r ≡ absent + below x l = found ∙ rw t in omega (arith, below-length x l)
+  ]
 
-another : (c : tie.After-place-near Inv-loop μ-loop)
-    → let at = turn (other c) in
-    sender (now (given (at .before) .args .tray)) (entry at) ≡ given (at .before) .args .own → ⊥
+-- the sender of a turn, those heard before it, and what is found of it
+abbrev who : tie.After-find-near Inv-loop μ-loop → ℕ
+who c = let at = asked c in sender (now (given (at .before) .args .tray)) (entry at)
+
+abbrev heard : tie.After-find-near Inv-loop μ-loop → List ℕ
+heard c = listed (list (asked c .before))
+
+sender-found : (c : tie.After-find-near Inv-loop μ-loop) → c .find-near .result ≡ foundIn (who c) (heard c)
+sender-found c = c .find-near .ensures ∙ ap (λ (x : ℕ). foundIn x (heard c)) (sender-read (other c .before))
+
+known : (c : tie.After-find-near Inv-loop μ-loop) → c .find-near .result < absent → In (who c) (heard c)
+known c = found-known (who c) _ (heard c) (tests (asked c .before) .list .short) (sender-found c)
+
+unknown : (c : tie.After-find-near Inv-loop μ-loop) → absent ≤ c .find-near .result → In (who c) (heard c) → ⊥
+unknown c = found-unknown (who c) _ (heard c) (tests (asked c .before) .list .short) (sender-found c)
+
+sender-place : (c : tie.After-find-near Inv-loop μ-loop) → c .find-near .result % absent ≡ below (who c) (heard c)
+sender-place c = found-place (who c) _ (heard c) (tests (asked c .before) .list .short) (sender-found c)
+
+place-small : (c : tie.After-find-near Inv-loop μ-loop) → c .find-near .result % absent ≤ asked c .before .loop .n
+place-small c = omega (arith, sender-place c, below-length (who c) (heard c), tests (asked c .before) .used)
+
+another : (c : tie.After-find-near Inv-loop μ-loop) → who c ≡ given (asked c .before) .args .own → ⊥
 another c e = other c .if1 .left (sender-read (other c .before) ∙ e)
 
--- it is heard already, or it is not
-known : (c : tie.After-has-at Inv-loop μ-loop) → c .has-at .result ≡ true
-    → let at = asked c in
-    In (sender (now (given (at .before) .args .tray)) (entry at)) (listed (list (at .before)))
-known c t = Memᴰ·cast (sym (sender-read (other (near c) .before))) (mem-in (listed (list (asked c .before))) (sym (c .has-at .ensures) ∙ t))
-
-unknown : (c : tie.After-has-at Inv-loop μ-loop) → c .has-at .result ≡ false
-    → let at = asked c in
-    In (sender (now (given (at .before) .args .tray)) (entry at)) (listed (list (at .before))) → ⊥
-unknown c t i =
-    mem-out (listed (list (asked c .before))) (sym (c .has-at .ensures) ∙ t) (Memᴰ·cast (sender-read (other (near c) .before)) i)
-
-known-place : (c : tie.Then2 Inv-loop μ-loop) → near (c .before) .place-near .result < maxNumbers
+known-place : (c : tie.Then2 Inv-loop μ-loop) → c .before .find-near .result % absent < maxNumbers
 known-place c =
     let at = asked (c .before) in
     omega (
       arith,
-      sender-place (near (c .before)),
+      sender-place (c .before),
       known-short (counted at) (so-far at) (known (c .before) (c .if2 .taken)),
       tests (at .before) .list .short,
     )
@@ -178,20 +187,20 @@ element-write-notes c = known-place (c .before .before .before)
 
 returns-2 : tie.Need-returns-2 Inv-loop μ-loop
 returns-2 c =
-    let has = c .before .before in
-    let at = asked has in
-    hears-zero _ _ _ (entry at) _ _ (counted at) (sym (sender-read (other (near has) .before)) ∙ c .if3 .taken)
+    let near = c .before .before in
+    let at = asked near in
+    hears-zero _ _ _ (entry at) _ _ (counted at) (sym (sender-read (other near .before)) ∙ c .if3 .taken)
 
 returns-3 : tie.Need-returns-3 Inv-loop μ-loop
 returns-3 c =
-    let has = c .before .before .before in
-    let at = asked has in
-    hears-full (counted at) (so-far at) (unknown has (c .before .before .if2 .left)) (c .if4 .taken) _ _
+    let near = c .before .before .before in
+    let at = asked near in
+    hears-full (counted at) (so-far at) (unknown near (c .before .before .if2 .left)) (c .if4 .taken) _ _
 
 insert-at-requires : tie.Need-insert-at-requires Inv-loop μ-loop
 insert-at-requires c κs =
-    let has = c .before .before .before .before in
-    (asked has .before .loop .inv .sound, place-small (near has), c .before .if4 .left)
+    let near = c .before .before .before .before in
+    (asked near .before .loop .inv .sound, place-small near, c .before .if4 .left)
 
 entry-place-requires-2 : tie.Need-entry-place-requires-2 Inv-loop μ-loop
 entry-place-requires-2 c κs = search needs
@@ -199,14 +208,14 @@ entry-place-requires-2 c κs = search needs
 open-at-requires : tie.Need-open-at-requires Inv-loop μ-loop
 open-at-requires c κs =
     let room = c .before .before .before .before in
-    let has = room .before .before .before in
-    (asked has .before .loop .inv .places, place-small (near has), room .if4 .left)
+    let near = room .before .before .before in
+    (asked near .before .loop .inv .places, place-small near, room .if4 .left)
 
 add-n : tie.Need-add-n Inv-loop μ-loop
 add-n c = search needs
 
 add-next : tie.Need-add-next Inv-loop μ-loop
-add-next c = let at = near (c .before) in omega (arith, place-small at, few (turn (other at) .before))
+add-next c = let at = c .before in omega (arith, place-small at, few (asked at .before))
 
 sub-next : tie.Need-sub-next Inv-loop μ-loop
 sub-next c = omega arith
@@ -221,16 +230,15 @@ moved h n at g size places notes = rw (size, places, notes) h
 
 loop-again : tie.Need-loop-again Inv-loop μ-loop
 loop-again c =
-    let has = c .before in
-    let at = asked has in
+    let near = c .before in
+    let at = asked near in
     let b = now (given (at .before) .args .tray) in
     let v = at .before .loop in
-    let near = near has in
-    let p = near .place-near .result in
+    let p = near .find-near .result % absent in
     let join = c .if2 in
     elim (join .came) [
       | inl t ↦
-          moved (hears-known (counted at) (so-far at) (known has (t .0 .taken)) (another near) p (t .3 .result) (sender-place near)
+          moved (hears-known (counted at) (so-far at) (known near (t .0 .taken)) (another near) p (t .3 .result) (sender-place near)
           (t .3 .ensures ∙ ap (noteWith b (getD (v .notes) p 0)) (placed (at .before) (entry at) _ (t .2 .ensures))))
           (join .n) (join .heard) (join .notes) (t .6) (t .4) (t .5)
       | inr u ↦
@@ -239,7 +247,7 @@ loop-again c =
           let longer : _≡_ {A = Numbers} (record { len = v .n + 1; at = u .4 .last .0 }) (stored (insertedAt p (sender b (entry at)) l)) =
           u .4 .ensures ∙ ap (λ (x : ℕ). stored (insertedAt p x l)) read in
           let opens = u .7 .ensures ∙ ap (λ (w : ℕ). opened p w (v .n) (v .notes)) (placed (at .before) (entry at) _ (u .6 .ensures)) in
-          moved (hears-new (counted at) (so-far at) (unknown has (u .0 .left)) p (sender-place near) (u .2 .left) (λ z. u .1 .left (read ∙ z))
+          moved (hears-new (counted at) (so-far at) (unknown near (u .0 .left)) p (sender-place near) (u .2 .left) (λ z. u .1 .left (read ∙ z))
           (another near) _ longer (u .7 .last .0) opens)
           (join .n) (join .heard) (join .notes) (u .10) (u .8) (u .9)
     ]
@@ -263,8 +271,7 @@ hear-spec =
     sub-i
     entry-sender-requires
     returns
-    place-near-requires
-    has-at-requires
+    find-near-requires
     mul-note-with
     element-copy-out-note-with
     entry-place-requires
