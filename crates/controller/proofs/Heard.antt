@@ -18,7 +18,7 @@ use Rattle.wire.specs.declared.frame.Numbers.{Numbers}
 use Rattle.controller.specs.Calls.{Promise}
 use Rattle.controller.specs.Laws.Received.{heard-in}
 use Rattle.controller.specs.Laws.Rules.{withHeard, heard-sound, next-already-heard}
-use Rattle.controller.specs.Laws.State.{Sound, sound-gives, sound-stored, sound-test, view-stored}
+use Rattle.controller.specs.Laws.State.{Sound, rules-give, rules-stored, rules-test, view-stored}
 use Rattle.controller.specs.Laws.Work.Step.{ready-found}
 use Rattle.controller.specs.Lists.{In}
 use Rattle.controller.specs.Received.{senders, receive}
@@ -38,18 +38,18 @@ heardState s n =
 module _ (s : State) (es : List Entry) (n : Numbers) (h : sound s ≡ true) (e : n ≡ stored ((receive (view s) es) .heard)) where
   more-image : heardState s n ≡ storedState (withHeard (view s) es)
   more-image =
-      let back = sym (sound-stored s h) in
+      let back = sym (rules-stored s h) in
       λ i. stateFrom (s .own) (s .round) (bitPart s) (s .king) (e i) ((back i) .candidates) ((back i) .echoes)
 
   more-view : view (heardState s n) ≡ withHeard (view s) es
   more-view = ap view more-image ∙ view-stored _
 
   pub more-next : next (view (heardState s n)) es ≡ next (view s) es
-  more-next = ap (λ v. next v es) more-view ∙ next-already-heard (view s) es (sound-gives s h .heard .rises)
+  more-next = ap (λ v. next v es) more-view ∙ next-already-heard (view s) es (rules-give s h .heard .rises)
 
   pub more-sound : (¬ In 0 (senders es)) → length ((receive (view s) es) .heard) ≤ maxNumbers → sound (heardState s n) ≡ true
   more-sound z short =
-      let v = sound-gives s h in
+      let v = rules-give s h in
       let all : Sound (withHeard (view s) es) =
       record {
         early = v .early;
@@ -67,7 +67,7 @@ module _ (s : State) (es : List Entry) (n : Numbers) (h : sound s ≡ true) (e :
         strong = v .strong;
         decision = v .decision;
       } in
-      ap sound more-image ∙ sound-test _ all
+      ap sound more-image ∙ rules-test _ all
 
 -- what `hear` answers, in the rules' words
 module _ {s : State} {b : List ℕ} {n : ℕ} (k : Checked s b n) {r : ℕ} {at f : List ℕ} (heard : Hears (s .own) b (listed (s .heard)) r at f) where

@@ -13,7 +13,7 @@ use borrow.Author.Tests.{not-true, lt-ltb, le-leb, eq-eqb}
 use lib.Dec.{eqb}
 use Rattle.wire.specs.Limits.{maxFrame, lastRound}
 use Rattle.wire.specs.Tray.{entries, roundOf}
-use Rattle.controller.specs.Fields.{stateOf, answerOf}
+use Rattle.controller.specs.Fields.{wholeOf, answerOf}
 use Rattle.controller.specs.Lists.{In, mem}
 use Rattle.controller.specs.Received.{senders}
 use Rattle.controller.specs.Refusals.{trayRefusal, sendersFit, heardFit, listsFit}
@@ -26,23 +26,24 @@ use Rattle.controller.specs.declared.state.Answer.{Answer}
 use Rattle.controller.specs.declared.state.Fields.{Fields}
 use Rattle.controller.specs.declared.state.Worked.{Worked}
 
-pub promise-refused : (n k : ℕ) (v : View) (s : State) (b : List ℕ) (r : Answer)
-    → n ≡ k → eqb k 0 ≡ false → r ≡ record { refusal = k; state = s; length = 0 } → Promise n v s b r b
-promise-refused n k v s b r e z a = record { number = rw (a, e); state = rw (a, e, z); written = rw (a, e, z); output = rw (e, z) }
+pub promise-refused : (n k : ℕ) (v : View) (p : List ℕ) (s : State) (b : List ℕ) (r : Answer)
+    → n ≡ k → eqb k 0 ≡ false → r ≡ record { refusal = k; state = s; length = 0 } → Promise n v p s b r b
+promise-refused n k v p s b r e z a = record { number = rw (a, e); state = rw (a, e, z); written = rw (a, e, z); output = rw (e, z) }
 
-pub promise-left : (n k : ℕ) (v : View) (f : Fields) (h c e b : List ℕ) (w : Worked)
+pub promise-left : (n k : ℕ) (v : View) (p : List ℕ) (f : Fields) (h c e d b : List ℕ) (w : Worked)
     → n ≡ k → eqb k 0 ≡ false → w ≡ record { refusal = k; fields = f; length = 0 }
-    → Promise n v (stateOf f h c e) b (answerOf w h c e) b
-promise-left n k v f h c e b w q z a = promise-refused n k v (stateOf f h c e) b (answerOf w h c e) q z (ap (λ (u : Worked). answerOf u h c e) a)
+    → Promise n v p (wholeOf f h c e d) b (answerOf w h c e d) b
+promise-left n k v p f h c e d b w q z a = promise-refused n k v p (wholeOf f h c e d) b (answerOf w h c e d) q z (ap (λ (u : Worked). answerOf u h c e d) a)
 
-pub promise-sent : (n : ℕ) (v : View) (s t : State) (b : List ℕ) (l : ℕ) (a : List ℕ) → n ≡ 0 → t ≡ storedState v → Sends v b l a
-    → Promise n v s b (record { refusal = 0; state = t; length = l }) a
-promise-sent n v s t b l a e made sent = record { number = sym e; state = rw e made; written = rw e (sent .written); output = rw e (sent .output) }
+pub promise-sent : (n : ℕ) (v : View) (p : List ℕ) (s t : State) (b : List ℕ) (l : ℕ) (a : List ℕ) → n ≡ 0 → t ≡ storedState v p → Sends v b l a
+    → Promise n v p s b (record { refusal = 0; state = t; length = l }) a
+promise-sent n v p s t b l a e made sent = record { number = sym e; state = rw e made; written = rw e (sent .written); output = rw e (sent .output) }
 
-pub promise-worked : (n : ℕ) (v : View) (s t : State) (b : List ℕ) (r : Answer) (a : List ℕ) → r .refusal ≡ 0 → Promise n v s b r a → Promise n v t b r a
-promise-worked n v s t b r a z p =
-    let none : n ≡ 0 = sym (p .number) ∙ z in
-    record { number = p .number; state = rw none (rw none at (p .state)); written = p .written; output = p .output }
+pub promise-worked : (n : ℕ) (v : View) (p : List ℕ) (s t : State) (b : List ℕ) (r : Answer) (a : List ℕ) → r .refusal ≡ 0
+    → Promise n v p s b r a → Promise n v p t b r a
+promise-worked n v p s t b r a z h =
+    let none : n ≡ 0 = sym (h .number) ∙ z in
+    record { number = h .number; state = rw none (rw none at (h .state)); written = h .written; output = h .output }
 
 pub senders-numbered : (s : State) (b : List ℕ) → sendersFit (view s) (entries b) ≡ true → ¬ In 0 (senders (entries b))
 senders-numbered s b h =

@@ -1,6 +1,7 @@
 -- What a call promises, for every input, refused ones too: document 01, "Refusals" and "Agreement between us and the developers".
---     Promise k v s given r left        the call is refused under k (0: not refused), in which case it returns the state s and leaves the buffer
---                                      as it was; else it returns the state v and writes v's frame in front of what stood in the buffer
+--     Promise k v p s given r left     the call is refused under k (0: not refused), in which case it returns the state s and leaves the buffer as
+--                                      it was; else it returns the state v, with the record whose places are p, and writes v's frame in front of what
+--                                      stood in the buffer
 --     StartPromise, TrayPromise        the promises of start and of tray
 --     WorkPromise                      the promise of work: that of tray, of a state in parts
 use Prim.Native.Nat.{ℕ}
@@ -12,9 +13,10 @@ use lib.ListN.{length, drop}
 use Rattle.wire.specs.Frame.{frameBytes}
 use Rattle.wire.specs.Lent.{before, after}
 use Rattle.wire.specs.Tray.{entries}
-use Rattle.controller.specs.State.{View, view, storedState, startView, zeroState}
-use Rattle.controller.specs.Fields.{Lent, stateBefore, answerOf}
+use Rattle.controller.specs.State.{View, view, storedState, startView, startRounds, zeroState}
+use Rattle.controller.specs.Fields.{Lent, wholeBefore, answerOf}
 use Rattle.controller.specs.Received.{frameOf}
+use Rattle.controller.specs.First.{roundsAfter}
 use Rattle.controller.specs.Rules.{next}
 use Rattle.controller.specs.Refusals.{startRefusal, trayRefusal}
 use Rattle.controller.specs.declared.state.State.{State}
@@ -26,21 +28,21 @@ use Rattle.controller.specs.declared.state.Worked.{Worked}
 abbrev pub sentBytes : View → List ℕ
 sentBytes v = frameBytes (frameOf v)
 
-pub record Promise (refusal : ℕ) (made : View) (kept : State) (given : List ℕ) (r : Answer) (left : List ℕ) : Type 0 where
+pub record Promise (refusal : ℕ) (made : View) (rounds : List ℕ) (kept : State) (given : List ℕ) (r : Answer) (left : List ℕ) : Type 0 where
   pub number : r .refusal ≡ refusal
-  pub state : r .state ≡ cond (eqb refusal 0) (storedState made) kept
+  pub state : r .state ≡ cond (eqb refusal 0) (storedState made rounds) kept
   pub written : r .length ≡ cond (eqb refusal 0) (length (sentBytes made)) 0
   pub output : left ≡ cond (eqb refusal 0) (sentBytes made ++ drop (length (sentBytes made)) given) given
 
 -- start(number, bit, out), with the buffer that is given and as it is left
 abbrev pub StartPromise : ℕ → ℕ → List ℕ → Answer → List ℕ → Type 0
-StartPromise number bit given r left = Promise (startRefusal number bit (length given)) (startView number bit) zeroState given r left
+StartPromise number bit given r left = Promise (startRefusal number bit (length given)) (startView number bit) startRounds zeroState given r left
 
 -- tray(state, tray, out)
 abbrev pub TrayPromise : State → List ℕ → List ℕ → Answer → List ℕ → Type 0
-TrayPromise s tray given r left = Promise (trayRefusal s tray (length given)) (next (view s) (entries tray)) s given r left
+TrayPromise s tray given r left = Promise (trayRefusal s tray (length given)) (next (view s) (entries tray)) (roundsAfter s (entries tray)) s given r left
 
--- work(fields, heard, candidates, echoes, tray, out)
-abbrev pub WorkPromise : Fields → Lent → Lent → Lent → Lent → Lent → Worked → Type 0
-WorkPromise f h c e tray out r =
-    TrayPromise (stateBefore f h c e) (before tray) (before out) (answerOf r (after h) (after c) (after e)) (after out)
+-- work(fields, heard, candidates, echoes, first_rounds, tray, out)
+abbrev pub WorkPromise : Fields → Lent → Lent → Lent → Lent → Lent → Lent → Worked → Type 0
+WorkPromise f h c e p tray out r =
+    TrayPromise (wholeBefore f h c e p) (before tray) (before out) (answerOf r (after h) (after c) (after e) (after p)) (after out)

@@ -4,6 +4,7 @@ pub mod Thirds
 pub mod State
 pub mod Fields
 pub mod Received
+pub mod First
 pub mod Rotation
 pub mod Bit
 pub mod Rules

@@ -1,18 +1,20 @@
--- A controller's state: document 01, "A controller's state".
---     View                 the ten things that the paper lists, as numbers and lists, in parts
+-- A controller's state: document 01, "A controller's state", and document 02, "A8. Show when each section was first heard".
+--     View                 the ten things that document 01 lists, as numbers and lists, in parts: all that the rules of a step read
 --     Rotor                what belongs to the coordinator rotation; BitPart, what belongs to the bit
---     stateFrom ..         the stored state with these fields and lists
---     view, storedState    the view of a stored state, and the stored state of a view
---     startView n b        the state after a start with number n and bit b
---     sound s              the paper's "sound": the rules that it lists, and nothing more
+--     stateFrom ..         the stored state with these fields, lists and places of the record
+--     view s               the view of a stored state
+--     firstRounds s        its record: beside each number heard, in heard's order, the round of the tray that first brought it
+--     storedState v p      the stored state of the view v, where p are the places of the record; recorded l, the places of the record l
+--     startView n b        the state after a start with number n and bit b; startRounds, the places of its record
+--     sound s              the papers' "sound": the rules that they list, and nothing more; soundRules s, those of document 01
 --     undecided v          the decision is 2, none
 use Prim.Native.Nat.{ℕ}
 use mathlib.Core.Bool.{Bool, true, false, not, cond, _&&_}
 use mathlib.Core.List.{List, [], _∷_}
-use lib.Dec.{leb, eqb}
-use lib.ListN.{length}
+use lib.Dec.{leb, ltb, eqb}
+use lib.ListN.{length, take}
 use Rattle.wire.specs.Frame.{kindOf, bitFits, roundFits}
-use Rattle.wire.specs.Limits.{maxNumbers}
+use Rattle.wire.specs.Limits.{maxNumbers, lastRound}
 use Rattle.wire.specs.Numbers.{rising, stored, listed}
 use Rattle.wire.specs.declared.frame.Numbers.{Numbers}
 use Rattle.controller.specs.Lists.{mem}
@@ -55,8 +57,12 @@ view s =
       bit = bitPart s;
     }
 
-abbrev pub stateFrom : ℕ → ℕ → BitPart → ℕ → Numbers → Numbers → Numbers → State
-stateFrom own round bit king heard candidates echoes =
+-- "The state gains, beside each heard number, the round of the tray that first brought it"
+abbrev pub firstRounds : State → List ℕ
+firstRounds s = take (length (listed (s .heard))) (s .first-rounds)
+
+abbrev pub stateFrom : ℕ → ℕ → BitPart → ℕ → Numbers → Numbers → Numbers → List ℕ → State
+stateFrom own round bit king heard candidates echoes rounds =
     record {
       own = own;
       round = round;
@@ -68,11 +74,16 @@ stateFrom own round bit king heard candidates echoes =
       heard = heard;
       candidates = candidates;
       echoes = echoes;
+      first-rounds = rounds;
     }
 
-abbrev pub storedState : View → State
-storedState v =
-    stateFrom (v .own) (v .round) (v .bit) (v .rotor .king) (stored (v .rotor .heard)) (stored (v .rotor .candidates)) (stored (v .rotor .echoes))
+abbrev pub storedState : View → List ℕ → State
+storedState v rounds =
+    stateFrom (v .own) (v .round) (v .bit) (v .rotor .king) (stored (v .rotor .heard)) (stored (v .rotor .candidates)) (stored (v .rotor .echoes)) rounds
+
+-- 64 places, of which the unused ones are 0
+abbrev pub recorded : List ℕ → List ℕ
+recorded l = (stored l) .at
 
 -- "heard is the own number, the other lists are empty, strong 0, king 0, decision 2"; the round is 1, and init says 2
 abbrev pub startView : ℕ → ℕ → View
@@ -84,9 +95,13 @@ startView number bit =
       bit = record { own = bit; said = 2; strong = 0; decision = 2 };
     }
 
+-- only the own number is heard: "for the own number it is 0"
+abbrev pub startRounds : List ℕ
+startRounds = recorded (0 ∷ [])
+
 -- the all-zero state
 abbrev pub zeroState : State
-zeroState = stateFrom 0 0 (record { own = 0; said = 0; strong = 0; decision = 0 }) 0 (stored []) (stored []) (stored [])
+zeroState = stateFrom 0 0 (record { own = 0; said = 0; strong = 0; decision = 0 }) 0 (stored []) (stored []) (stored []) (recorded [])
 
 abbrev pub undecided : View → Bool
 undecided v = eqb (v .bit .decision) 2
@@ -115,9 +130,28 @@ abbrev pub soundEmpty : View → Bool
 soundEmpty v =
     cond (leb (v .round) 2) (isEmpty (v .rotor .candidates)) true && cond (leb (v .round) 1) (isEmpty (v .rotor .echoes)) true
 
-unfoldable pub sound : State → Bool
-sound s =
+-- document 01's rules
+unfoldable pub soundRules : State → Bool
+soundRules s =
     roundFits (s .round) && (not (eqb (s .own) 0) && mem (s .own) (listed (s .heard)))
     && (soundList (s .heard) && soundList (s .candidates) && soundList (s .echoes))
     && soundSaid (view s) && soundEmpty (view s)
     && (leb (s .bit) 1 && leb (s .strong) 1 && leb (s .decision) 2)
+
+-- "It is 1 to 194; for the own number it is 0", of the round t beside the number x
+abbrev pub firstFits : ℕ → ℕ → ℕ → Bool
+firstFits own x t = cond (eqb x own) (eqb t 0) (leb 1 t && ltb t lastRound)
+
+-- each number of a list, with what stands beside it in the other
+abbrev pub alongside : (ℕ → ℕ → Bool) → List ℕ → List ℕ → Bool
+alongside P [] [] = true
+alongside P [] (t ∷ w) = false
+alongside P (x ∷ l) [] = false
+alongside P (x ∷ l) (t ∷ w) = P x t && alongside P l w
+
+-- "A sound state has these in range and 0 in unused places", of the places w beside the numbers l
+unfoldable pub soundBeside : ℕ → List ℕ → List ℕ → Bool
+soundBeside own l w = let used = take (length l) w in alongside (firstFits own) l used && same w (recorded used)
+
+unfoldable pub sound : State → Bool
+sound s = soundRules s && soundBeside (s .own) (listed (s .heard)) (s .first-rounds)

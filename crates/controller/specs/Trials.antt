@@ -10,7 +10,7 @@ use mathlib.Core.Path.{_≡_}
 use Rattle.wire.specs.Limits.{maxFrame}
 use Rattle.wire.specs.Trials.{FrameTrial, FrameHolds, frameTrials}
 use Rattle.controller.specs.Thirds.{third, twoThirds}
-use Rattle.controller.specs.State.{storedState, startView}
+use Rattle.controller.specs.State.{storedState, startView, startRounds}
 use Rattle.controller.specs.Refusals.{trayRefusal}
 use Rattle.controller.specs.declared.state.State.{State}
 
@@ -29,7 +29,7 @@ Holds (Tray s b k) = trayRefusal s b maxFrame ≡ k
 
 -- a state of round 1
 abbrev pub started : State
-started = storedState (startView 7 1)
+started = storedState (startView 7 1) startRounds
 
 abbrev pub trials : List Trial
 trials =

@@ -2,6 +2,7 @@
 pub mod Alike
 pub mod Bit
 pub mod Calls
+pub mod First
 pub mod Heads
 pub mod Lists
 pub mod Opened

@@ -4,10 +4,11 @@ ghost use Prim.Native.Nat.{_≤_};
 ghost use lib.ListN.{length};
 ghost use Rattle.wire.specs.Lent.{before, after};
 ghost use Rattle.wire.specs.Limits.{maxFrame};
-ghost use Rattle.controller.specs.Fields.{stateBefore, stateGiven};
-ghost use Rattle.controller.specs.State.{zeroState, storedState, startView};
+ghost use Rattle.controller.specs.Fields.{wholeBefore, wholeGiven, stateGiven};
+ghost use Rattle.controller.specs.State.{zeroState, storedState, startView, startRounds};
 ghost use Rattle.controller.specs.Calls.{StartPromise, TrayPromise, WorkPromise};
 ghost use Rattle.controller.specs.Work.Calls.{earlyRefusal, Checked, LastTest, HeardTray, SendsFields};
+use crate::first::record_rounds;
 use crate::lists::no_numbers;
 use crate::received::hear;
 use crate::received::senders_fit;
@@ -46,11 +47,12 @@ fn zero_state() -> State
         heard: none,
         candidates: none,
         echoes: none,
+        first_rounds: [0; MAX_NUMBERS],
     }
 }
 
 fn first_state(number: u32, bit: u8) -> State
-    ensures { λ r. ⌜ r ≡ storedState (startView number bit) ⌝ }
+    ensures { λ r. ⌜ r ≡ storedState (startView number bit) startRounds ⌝ }
 {
     let none = no_numbers();
     let mut heard = none;
@@ -67,6 +69,7 @@ fn first_state(number: u32, bit: u8) -> State
         heard,
         candidates: none,
         echoes: none,
+        first_rounds: [0; MAX_NUMBERS],
     }
 }
 
@@ -161,11 +164,12 @@ fn work_checked(
     heard: &mut [u32; MAX_NUMBERS],
     candidates: &mut [u32; MAX_NUMBERS],
     echoes: &mut [u32; MAX_NUMBERS],
+    first_rounds: &mut [u8; MAX_NUMBERS],
     tray: &[u8],
     out: &mut [u8],
 ) -> Worked
-    requires { ⌜ Checked (stateGiven fields heard candidates echoes) (now tray) (length (now out)) ⌝ }
-    ensures { λ r. ⌜ WorkPromise fields heard candidates echoes tray out r ⌝ }
+    requires { ⌜ Checked (wholeGiven fields heard candidates echoes first_rounds) (now tray) (length (now out)) ⌝ }
+    ensures { λ r. ⌜ WorkPromise fields heard candidates echoes first_rounds tray out r ⌝ }
 {
     let mut after = *heard;
     let mut notes = [NO_FRAME; MAX_NUMBERS];
@@ -175,7 +179,17 @@ fn work_checked(
         more.heard = len;
         let worked = work_heard(more, &after, candidates, echoes, tray, &notes, out);
         if worked.refusal == 0 {
-            *heard = after;
+            if fields.heard < len {
+                record_rounds(
+                    heard,
+                    fields.heard,
+                    &after,
+                    len,
+                    fields.round as u8,
+                    first_rounds,
+                );
+                *heard = after;
+            }
             worked
         } else {
             refused_in_place(8, fields)
@@ -193,12 +207,13 @@ fn early_refusal(
     heard: &[u32; MAX_NUMBERS],
     candidates: &[u32; MAX_NUMBERS],
     echoes: &[u32; MAX_NUMBERS],
+    first_rounds: &[u8; MAX_NUMBERS],
     tray: &[u8],
     room: usize,
 ) -> u8
-    ensures { λ r. ⌜ r ≡ earlyRefusal (stateBefore fields heard candidates echoes) (before tray) room ⌝ }
+    ensures { λ r. ⌜ r ≡ earlyRefusal (wholeBefore fields heard candidates echoes first_rounds) (before tray) room ⌝ }
 {
-    if !is_sound(fields, heard, candidates, echoes) {
+    if !is_sound(fields, heard, candidates, echoes, first_rounds) {
         1
     } else if LAST_ROUND <= fields.round {
         2
@@ -219,14 +234,23 @@ pub fn work(
     heard: &mut [u32; MAX_NUMBERS],
     candidates: &mut [u32; MAX_NUMBERS],
     echoes: &mut [u32; MAX_NUMBERS],
+    first_rounds: &mut [u8; MAX_NUMBERS],
     tray: &[u8],
     out: &mut [u8],
 ) -> Worked
-    ensures { λ r. ⌜ WorkPromise fields heard candidates echoes tray out r ⌝ }
+    ensures { λ r. ⌜ WorkPromise fields heard candidates echoes first_rounds tray out r ⌝ }
 {
-    let refusal = early_refusal(fields, heard, candidates, echoes, tray, out.len());
+    let refusal = early_refusal(
+        fields,
+        heard,
+        candidates,
+        echoes,
+        first_rounds,
+        tray,
+        out.len(),
+    );
     if refusal == 0 {
-        work_checked(fields, heard, candidates, echoes, tray, out)
+        work_checked(fields, heard, candidates, echoes, first_rounds, tray, out)
     } else {
         refused_in_place(refusal, fields)
     }
@@ -239,11 +263,13 @@ pub fn tray(state: State, tray: &[u8], out: &mut [u8]) -> Answer
     let mut heard = state.heard;
     let mut candidates = state.candidates;
     let mut echoes = state.echoes;
+    let mut first_rounds = state.first_rounds;
     let worked = work(
         fields_of(state),
         &mut heard.at,
         &mut candidates.at,
         &mut echoes.at,
+        &mut first_rounds,
         tray,
         out,
     );
@@ -262,6 +288,7 @@ pub fn tray(state: State, tray: &[u8], out: &mut [u8]) -> Answer
         heard,
         candidates,
         echoes,
+        first_rounds,
     };
     Answer {
         refusal: worked.refusal,

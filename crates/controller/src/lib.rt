@@ -2,6 +2,7 @@
 mod alike;
 mod bit;
 pub mod calls;
+mod first;
 mod heads;
 mod lists;
 mod opened;

@@ -5,11 +5,13 @@ ghost use lib.ListN.{length};
 ghost use Rattle.wire.specs.Lent.{before};
 ghost use Rattle.wire.specs.Limits.{maxNumbers};
 ghost use Rattle.wire.specs.Numbers.{stored, listed};
-ghost use Rattle.controller.specs.Fields.{stateOf, stateBefore, bare};
+ghost use Rattle.controller.specs.Fields.{wholeOf, stateBefore, wholeBefore, bare};
 ghost use Rattle.controller.specs.State.{same, soundList, sound, soundSaid};
 ghost use Rattle.controller.specs.Work.Lists.{inPlaces};
 ghost use Rattle.controller.specs.Work.Sound.{emptySound, bitsSound, fieldsSound, listsSound};
-use crate::lists::has;
+use crate::first::rounds_sound;
+use crate::lists::has_at;
+use crate::lists::place_in;
 use crate::state::Fields;
 use crate::state::State;
 use wire::frame::bit_fits;
@@ -84,22 +86,33 @@ fn lists_sound(
         & is_list(echoes, fields.echoes)
 }
 
-// Whether a state is sound whose fields and lists' places these are. The lists come first: only a rising list can be searched for the own number.
+// Whether a state is sound whose fields, lists' places and record these are. The lists come first: only a rising list can be searched for the own number.
 pub fn is_sound(
     fields: Fields,
     heard: &[u32; MAX_NUMBERS],
     candidates: &[u32; MAX_NUMBERS],
     echoes: &[u32; MAX_NUMBERS],
+    first_rounds: &[u8; MAX_NUMBERS],
 ) -> bool
-    ensures { λ r. ⌜ r ≡ sound (stateBefore fields heard candidates echoes) ⌝ }
+    ensures { λ r. ⌜ r ≡ sound (wholeBefore fields heard candidates echoes first_rounds) ⌝ }
 {
-    lists_sound(fields, heard, candidates, echoes)
-        && (fields_sound(fields) & (fields.own != 0) & has(heard, fields.heard, fields.own))
+    if lists_sound(fields, heard, candidates, echoes) {
+        let place = place_in(heard, fields.heard, fields.own);
+        if has_at(heard, fields.heard, place, fields.own) {
+            fields_sound(fields)
+                & (fields.own != 0)
+                & rounds_sound(first_rounds, fields.heard, place)
+        } else {
+            false
+        }
+    } else {
+        false
+    }
 }
 
 // A state's fields, without the places of its lists.
 pub fn fields_of(state: State) -> Fields
-    ensures { λ r. ⌜ stateOf r (state .heard .at) (state .candidates .at) (state .echoes .at) ≡ state ⌝ }
+    ensures { λ r. ⌜ wholeOf r (state .heard .at) (state .candidates .at) (state .echoes .at) (state .first_rounds) ≡ state ⌝ }
 {
     let heard = state.heard;
     let candidates = state.candidates;

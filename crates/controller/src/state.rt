@@ -1,5 +1,6 @@
-// A controller's state, as document 01, "A controller's state", lists it, and what a call returns.
+// A controller's state, as document 01, "A controller's state", lists it, with the record of document 02, A8, and what a call returns.
 use wire::frame::Numbers;
+use wire::limits::MAX_NUMBERS;
 
 pub struct State {
     // The own number.
@@ -19,6 +20,8 @@ pub struct State {
     pub heard: Numbers,
     pub candidates: Numbers,
     pub echoes: Numbers,
+    // Beside each number of heard, the round of the tray that first brought it; 0 for the own number.
+    pub first_rounds: [u8; MAX_NUMBERS],
 }
 
 // The refusal, 0 for none; the state after the call; the length of the frame written, 0 when refused.
@@ -28,7 +31,7 @@ pub struct Answer {
     pub length: usize,
 }
 
-// A state but for the places of its lists, which are lent beside it: a call that works in place copies no list. The order leaves no gap between the
+// A state but for the places of its lists and its record, which are lent beside it: a call that works in place copies none of them. The order leaves no gap between the
 // fields, so that they are copied as whole words.
 pub struct Fields {
     pub own: u32,

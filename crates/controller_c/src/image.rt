@@ -16,6 +16,7 @@ use crate::layout::CANDIDATES_AT;
 use crate::layout::COUNT_BYTES;
 use crate::layout::DECISION_AT;
 use crate::layout::ECHOES_AT;
+use crate::layout::FIRST_ROUNDS_AT;
 use crate::layout::HEARD_AT;
 use crate::layout::IMAGE_BYTES;
 use crate::layout::KING_AT;
@@ -81,6 +82,17 @@ fn take_list(image: &[u8], from: usize, at: &mut [u32; MAX_NUMBERS]) -> usize
     len
 }
 
+// The record of first rounds, a byte for each.
+pub(crate) fn take_rounds(image: &[u8]) -> [u8; MAX_NUMBERS] {
+    let mut rounds = [0u8; MAX_NUMBERS];
+    let mut i = 0;
+    while i < MAX_NUMBERS {
+        rounds[i] = image[FIRST_ROUNDS_AT + i];
+        i += 1;
+    }
+    rounds
+}
+
 // Takes the state in an image apart, sound or not, into its fields and into places that are 0.
 pub(crate) fn take_apart(
     image: &[u8],
@@ -123,7 +135,8 @@ pub(crate) fn is_sound_image(image: &[u8]) -> bool
         let mut candidates = [0u32; MAX_NUMBERS];
         let mut echoes = [0u32; MAX_NUMBERS];
         let fields = take_apart(image, &mut heard, &mut candidates, &mut echoes);
-        is_sound(fields, &heard, &candidates, &echoes)
+        let first_rounds = take_rounds(image);
+        is_sound(fields, &heard, &candidates, &echoes, &first_rounds)
     } else {
         false
     }
@@ -198,12 +211,22 @@ fn put_lists(
     put_list(image, ECHOES_AT, echoes, fields.echoes);
 }
 
+fn put_rounds(image: &mut [u8], first_rounds: &[u8; MAX_NUMBERS]) {
+    let rounds = *first_rounds;
+    let mut i = 0;
+    while i < MAX_NUMBERS {
+        image[FIRST_ROUNDS_AT + i] = rounds[i];
+        i += 1;
+    }
+}
+
 // Every byte of the image, from a sound state in parts.
 pub(crate) fn lay_out(
     fields: Fields,
     heard: &[u32; MAX_NUMBERS],
     candidates: &[u32; MAX_NUMBERS],
     echoes: &[u32; MAX_NUMBERS],
+    first_rounds: &[u8; MAX_NUMBERS],
     image: &mut [u8],
 )
     requires { ⌜ (sound (stateGiven fields heard candidates echoes) ≡ true) × (length (now image) ≡ imageBytes) ⌝ }
@@ -211,5 +234,6 @@ pub(crate) fn lay_out(
 {
     put_head(image, fields);
     put_lists(image, fields, heard, candidates, echoes);
+    put_rounds(image, first_rounds);
     clear(image, RESERVED_AT, IMAGE_BYTES);
 }

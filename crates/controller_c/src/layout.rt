@@ -21,7 +21,9 @@ pub(crate) const CANDIDATES_AT: usize = 276;
 
 pub(crate) const ECHOES_AT: usize = 536;
 
-pub(crate) const RESERVED_AT: usize = 796;
+pub(crate) const FIRST_ROUNDS_AT: usize = 796;
+
+pub(crate) const RESERVED_AT: usize = 860;
 
 // A list's count, before its places.
 pub(crate) const COUNT_BYTES: usize = 4;

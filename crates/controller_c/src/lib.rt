@@ -13,9 +13,12 @@ use crate::image::is_shaped;
 use crate::image::is_sound_image;
 use crate::image::lay_out;
 use crate::image::take_apart;
+use crate::image::take_rounds;
 use crate::layout::CANDIDATES_AT;
+use crate::layout::COUNT_BYTES;
 use crate::layout::DECISION_AT;
 use crate::layout::ECHOES_AT;
+use crate::layout::FIRST_ROUNDS_AT;
 use crate::layout::HEARD_AT;
 use crate::layout::IMAGE_BYTES;
 use crate::layout::KING_AT;
@@ -26,6 +29,7 @@ use controller::calls::work;
 use controller::sound::fields_of;
 use controller::state::Worked;
 use wire::limits::MAX_NUMBERS;
+use wire::limits::NUMBER_WIDTH;
 use wire::read::read_refusal;
 
 mod image;
@@ -38,6 +42,7 @@ fn hand_over(
     heard: &[u32; MAX_NUMBERS],
     candidates: &[u32; MAX_NUMBERS],
     echoes: &[u32; MAX_NUMBERS],
+    first_rounds: &[u8; MAX_NUMBERS],
     image: &mut [u8],
     written: &mut usize,
 ) -> u8
@@ -48,7 +53,7 @@ fn hand_over(
     let refusal = worked.refusal;
     if refusal == 0 {
         let fields = worked.fields;
-        lay_out(fields, heard, candidates, echoes, image);
+        lay_out(fields, heard, candidates, echoes, first_rounds, image);
     }
     refusal
 }
@@ -78,6 +83,7 @@ pub extern "C" fn controller_start(
         let heard = state.heard;
         let candidates = state.candidates;
         let echoes = state.echoes;
+        let first_rounds = state.first_rounds;
         let worked = Worked {
             refusal: answer.refusal,
             fields: fields_of(state),
@@ -88,6 +94,7 @@ pub extern "C" fn controller_start(
             &heard.at,
             &candidates.at,
             &echoes.at,
+            &first_rounds,
             image,
             written,
         )
@@ -110,9 +117,26 @@ pub extern "C" fn controller_tray(
         let mut heard = [0u32; MAX_NUMBERS];
         let mut candidates = [0u32; MAX_NUMBERS];
         let mut echoes = [0u32; MAX_NUMBERS];
+        let mut first_rounds = take_rounds(image);
         let fields = take_apart(image, &mut heard, &mut candidates, &mut echoes);
-        let worked = work(fields, &mut heard, &mut candidates, &mut echoes, tray, out);
-        hand_over(worked, &heard, &candidates, &echoes, image, written)
+        let worked = work(
+            fields,
+            &mut heard,
+            &mut candidates,
+            &mut echoes,
+            &mut first_rounds,
+            tray,
+            out,
+        );
+        hand_over(
+            worked,
+            &heard,
+            &candidates,
+            &echoes,
+            &first_rounds,
+            image,
+            written,
+        )
     } else {
         no_image(written)
     }
@@ -188,4 +212,26 @@ pub extern "C" fn controller_echoes(image: &[u8]) -> u32
     ensures { λ r. ⌜ r ≡ fieldOf (before image) ((takenApart (before image)) .echoes .len) ⌝ }
 {
     field(image, ECHOES_AT)
+}
+
+// The number at place `i` of heard, from 0; 0 past the end.
+#[no_mangle]
+pub extern "C" fn controller_heard_number(image: &[u8], i: u32) -> u32 {
+    let place = i as usize;
+    if place < MAX_NUMBERS {
+        field(image, HEARD_AT + COUNT_BYTES + NUMBER_WIDTH * place)
+    } else {
+        0
+    }
+}
+
+// The round of the tray that first brought the number at place `i` of heard; 0 for the own number, and past the end.
+#[no_mangle]
+pub extern "C" fn controller_first_round(image: &[u8], i: u32) -> u32 {
+    let place = i as usize;
+    if (place < MAX_NUMBERS) && is_sound_image(image) {
+        image[FIRST_ROUNDS_AT + place] as u32
+    } else {
+        0
+    }
 }

@@ -194,10 +194,10 @@ first-search {P} {Q} (suc n) test = elim (first-search {P = P} {Q = Q} n test) [
 -- if each of l has an image and no two have the same, there are as many images as l has numbers
 pub images-length : {Q : ℕ → ℕ → Type 0} (l : List ℕ) → NoRepeats l → ((x : ℕ) → In x l → (y : ℕ) × Q x y) → ((x z y : ℕ) → In x l → Q x y → Q z y → x ≡ z)
     → (m : List ℕ) × NoRepeats m × (length m ≡ length l) × ((y : ℕ) → In y m → (x : ℕ) × In x l × Q x y)
-images-length [] n storedState apart = ([], tt, refl, λ y i. absurd (List·Memᴰ·not-nil i))
-images-length {Q} (x ∷ l) n storedState apart =
-    let here = storedState x (List·Memᴰ·head refl) in
-    let rest = images-length {Q = Q} l (n .1) (λ z i. storedState z (List·Memᴰ·tail i)) (λ z u y i. apart z u y (List·Memᴰ·tail i)) in (
+images-length [] n image apart = ([], tt, refl, λ y i. absurd (List·Memᴰ·not-nil i))
+images-length {Q} (x ∷ l) n image apart =
+    let here = image x (List·Memᴰ·head refl) in
+    let rest = images-length {Q = Q} l (n .1) (λ z i. image z (List·Memᴰ·tail i)) (λ z u y i. apart z u y (List·Memᴰ·tail i)) in (
       here .0 ∷ rest .0,
       (λ i. let z = rest .3 (here .0) i in n .0 (Memᴰ·cast (apart x (z .0) (here .0) (List·Memᴰ·head refl) (here .1) (z .2)) (z .1)), rest .1),
       ap suc (rest .2),

@@ -75,8 +75,8 @@ unsound : (s : State) (b : List ℕ) (n : ℕ) → sound s ≡ false → trayRef
 unfolding trayRefusal
 unsound s b n h = rw h
 
-keeps : {v w : View} {s : State} {given left : List ℕ} {r : Answer} → Promise 1 v s given r left → Promise 1 w s given r left
-keeps p = record { number = p .number; state = p .state; written = p .written; output = p .output }
+keeps : {v w : View} {p q : List ℕ} {s : State} {given left : List ℕ} {r : Answer} → Promise 1 v p s given r left → Promise 1 w q s given r left
+keeps h = record { number = h .number; state = h .state; written = h .written; output = h .output }
 
 -- two well packed trays of one round, with the same entries in another order
 module _ (s : State) (b c : List ℕ) (packed : wellFormed b ≡ true) (packed′ : wellFormed c ≡ true) (round : roundOf b ≡ roundOf c)

@@ -14,12 +14,12 @@ use Rattle.wire.specs.Numbers.{rising, stored, listed}
 use Rattle.wire.specs.Laws.Numbers.{listed-stored}
 use Rattle.wire.specs.declared.frame.Numbers.{Numbers}
 use Rattle.controller.specs.Lists.{In, mem, Rising}
-use Rattle.controller.specs.State.{View, view, storedState, startView, same, soundList, isEmpty, soundSaid, soundEmpty, sound, bitPart, stateFrom}
+use Rattle.controller.specs.State.{View, view, storedState, startView, same, soundList, isEmpty, soundSaid, soundEmpty, soundRules, soundBeside, sound, bitPart, stateFrom}
 use Rattle.controller.specs.Laws.Lists.{in-mem, mem-in, rising-gives, rising-test}
 use Rattle.controller.specs.declared.state.State.{State}
 
-pub view-stored : (v : View) → view (storedState v) ≡ v
-view-stored v =
+pub view-stored : (v : View) (p : List ℕ) → view (storedState v p) ≡ v
+view-stored v p =
     let heard = listed-stored (v .rotor .heard) in
     let candidates = listed-stored (v .rotor .candidates) in
     let echoes = listed-stored (v .rotor .echoes) in
@@ -127,8 +127,8 @@ record Tests (s : State) : Type 0 where
   strong : leb (s .strong) 1 ≡ true
   decision : leb (s .decision) 2 ≡ true
 
-tests-give : (s : State) → sound s ≡ true → Tests s
-unfolding sound
+tests-give : (s : State) → soundRules s ≡ true → Tests s
+unfolding soundRules
 tests-give s h =
     let e₅ = and-eq-true-iff _ (leb (s .bit) 1 && leb (s .strong) 1 && leb (s .decision) 2) .0 h in
     let e₄ = and-eq-true-iff _ (soundEmpty (view s)) .0 (e₅ .0) in
@@ -154,8 +154,8 @@ tests-give s h =
       decision = bits .1;
     }
 
-tests-sound : (s : State) → Tests s → sound s ≡ true
-unfolding sound
+tests-sound : (s : State) → Tests s → soundRules s ≡ true
+unfolding soundRules
 tests-sound s t =
     rw (
       t .round,
@@ -173,9 +173,17 @@ tests-sound s t =
 
 -- ---- soundness
 
-pub sound-gives : (s : State) → sound s ≡ true → Sound (view s)
+pub sound-rules : (s : State) → sound s ≡ true → soundRules s ≡ true
+unfolding sound
+sound-rules s h = and-eq-true-iff (soundRules s) (soundBeside (s .own) (listed (s .heard)) (s .first-rounds)) .0 h .0
+
+pub sound-beside : (s : State) → sound s ≡ true → soundBeside (s .own) (listed (s .heard)) (s .first-rounds) ≡ true
+unfolding sound
+sound-beside s h = and-eq-true-iff (soundRules s) (soundBeside (s .own) (listed (s .heard)) (s .first-rounds)) .0 h .1
+
+pub rules-give : (s : State) → soundRules s ≡ true → Sound (view s)
 unfolding roundFits
-sound-gives s h =
+rules-give s h =
     let t = tests-give s h in
     let round = and-eq-true-iff (leb 1 (s .round)) (leb (s .round) lastRound) .0 (t .round) in
     let said = and-eq-true-iff (bitFits (kindOf (s .round)) (s .said)) _ .0 (t .said) in
@@ -197,26 +205,29 @@ sound-gives s h =
       decision = leb-true _ _ (t .decision);
     }
 
-pub sound-heard : (s : State) → sound s ≡ true → soundList (s .heard) ≡ true
-sound-heard s h = tests-give s h .heard
+pub sound-gives : (s : State) → sound s ≡ true → Sound (view s)
+sound-gives s h = rules-give s (sound-rules s h)
 
-pub sound-candidates : (s : State) → sound s ≡ true → soundList (s .candidates) ≡ true
-sound-candidates s h = tests-give s h .candidates
+pub rules-heard : (s : State) → soundRules s ≡ true → soundList (s .heard) ≡ true
+rules-heard s h = tests-give s h .heard
 
--- a sound state is the stored form of its view
-pub sound-stored : (s : State) → sound s ≡ true → storedState (view s) ≡ s
-sound-stored s h =
+pub rules-candidates : (s : State) → soundRules s ≡ true → soundList (s .candidates) ≡ true
+rules-candidates s h = tests-give s h .candidates
+
+-- a sound state is the stored form of its view, beside its record
+pub rules-stored : (s : State) → soundRules s ≡ true → storedState (view s) (s .first-rounds) ≡ s
+rules-stored s h =
     let t = tests-give s h in
     let heard = sound-list-gives (s .heard) (t .heard) .back in
     let candidates = sound-list-gives (s .candidates) (t .candidates) .back in
     let echoes = sound-list-gives (s .echoes) (t .echoes) .back in
     λ i.
-    stateFrom (s .own) (s .round) (bitPart s) (s .king) (heard i) (candidates i) (echoes i)
+    stateFrom (s .own) (s .round) (bitPart s) (s .king) (heard i) (candidates i) (echoes i) (s .first-rounds)
 
-pub sound-test : (v : View) → Sound v → sound (storedState v) ≡ true
+pub rules-test : (v : View) (p : List ℕ) → Sound v → soundRules (storedState v p) ≡ true
 unfolding roundFits
-sound-test v h =
-    tests-sound (storedState v)
+rules-test v p h =
+    tests-sound (storedState v p)
     record {
       round = and-eq-true-iff (leb 1 (v .round)) (leb (v .round) lastRound) .1 (le-leb _ _ (h .early), le-leb _ _ (h .late));
       numbered = ap not (ne-eqb _ _ (h .numbered));

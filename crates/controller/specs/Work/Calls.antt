@@ -13,7 +13,7 @@ use Rattle.wire.specs.Lent.{before, after}
 use Rattle.wire.specs.Limits.{maxFrame, lastRound}
 use Rattle.wire.specs.Refusal.{firstFailed}
 use Rattle.wire.specs.Tray.{wellFormed, roundOf, entries}
-use Rattle.controller.specs.State.{View, view, sound}
+use Rattle.controller.specs.State.{View, view, sound, soundRules}
 use Rattle.controller.specs.Fields.{Lent, stateBefore, answerOf, stateOf}
 use Rattle.controller.specs.Rules.{next}
 use Rattle.controller.specs.Refusals.{listsFit}
@@ -48,7 +48,7 @@ pub record Sends (v : View) (given : List ℕ) (r : ℕ) (left : List ℕ) : Typ
 
 -- whatever the other lists are, since a frame lists the echoes alone
 abbrev pub SendsFields : Fields → List ℕ → List ℕ → ℕ → List ℕ → Type 0
-SendsFields f e given r left = (h c : List ℕ) → sound (stateOf f h c e) ≡ true → Sends (view (stateOf f h c e)) given r left
+SendsFields f e given r left = (h c : List ℕ) → soundRules (stateOf f h c e) ≡ true → Sends (view (stateOf f h c e)) given r left
 
 -- what a tray has passed that only test 8 is left for
 abbrev pub HeardTray : State → List ℕ → List ℕ → ℕ → Type 0
@@ -58,4 +58,4 @@ abbrev pub LastTest : Fields → Lent → Lent → Lent → Lent → Lent → Wo
 LastTest f h c e tray out r =
     let s = stateBefore f h c e in
     let es = entries (before tray) in
-    Promise (cond (listsFit (view s) es) 0 8) (next (view s) es) s (before out) (answerOf r (before h) (after c) (after e)) (after out)
+    Promise (cond (listsFit (view s) es) 0 8) (next (view s) es) [] s (before out) (answerOf r (before h) (after c) (after e) []) (after out)

@@ -5,7 +5,7 @@
 --     Hears o b l r at f       r is at most 64 exactly if the senders of the tray b fit, o being the own number, and at most 64 are then heard; if so, the
 --                              list of r numbers with the places at is the stored form of those, and f has a note on each of them
 --     receivedBy s b           what the state s has received with the tray b
---     Ready s b f              what a step finds: a sound state s, a tray b whose senders are all heard, and in f a note on each number heard
+--     Ready s b f              what a step finds: a state s that is sound by document 01's rules, a tray b whose senders are all heard, and in f a note on each number heard
 --     WhereReady f h b t P     P holds of each state with the fields f, where h are those heard, and of the tray b, if it is ready
 --     contentUnder s b x k     the content of the frame received under x in the state s, with the note k on x in the tray b
 --     bitUnder o t d b x k     that frame's bit, where o is the own number, t the round and d said; 3 where it is void or there is not one
@@ -29,7 +29,7 @@ use Rattle.wire.specs.Frame.{Content, kindOf, maxCount, bitIn}
 use Rattle.wire.specs.declared.frame.Numbers.{Numbers}
 use Rattle.controller.specs.Fields.{Lent, stateOf}
 use Rattle.controller.specs.Lists.{In, mem, insertAll}
-use Rattle.controller.specs.State.{view, sound}
+use Rattle.controller.specs.State.{view, soundRules}
 use Rattle.controller.specs.Received.{Received, frameOf, senders, readIn, receive, says, count}
 use Rattle.controller.specs.declared.state.Fields.{Fields}
 use Rattle.controller.specs.declared.state.State.{State}
@@ -54,7 +54,7 @@ abbrev pub receivedBy : State → List ℕ → Received
 receivedBy s b = receive (view s) (entries b)
 
 pub record Ready (s : State) (b f : List ℕ) : Type 0 where
-  pub sound : sound s ≡ true
+  pub sound : soundRules s ≡ true
   pub packed : wellFormed b ≡ true
   pub numbered : ¬ In 0 (senders (entries b))
   pub heard : (receivedBy s b) .heard ≡ listed (s .heard)

@@ -12,7 +12,7 @@ use lib.Dec.{ltb}
 use lib.ListN.{length, take, drop}
 use Rattle.controller.specs.Fields.{stateOf}
 use Rattle.controller.specs.Laws.Received.{frame-writable}
-use Rattle.controller.specs.Laws.State.{sound-gives}
+use Rattle.controller.specs.Laws.State.{rules-give}
 use Rattle.controller.specs.Received.{frameOf}
 use Rattle.controller.specs.State.{view, sound}
 use Rattle.controller.specs.Work.Calls.{Sends}
@@ -44,7 +44,7 @@ module _ (s : State) where
       → FrameWrites (frameOf (view s)) b w a → Sends (view s) b (w .length) a
   unfolding writeRefusal
   writes h b room w a f =
-      let allowed = frame-writable (view s) (sound-gives s h) in
+      let allowed = frame-writable (view s) (rules-give s h) in
       let roomy = le-leb maxFrame (length b) room in
       record { written = f .written ∙ rw (allowed, roomy); output = f .output ∙ rw (allowed, roomy) }
 

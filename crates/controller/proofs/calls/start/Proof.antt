@@ -8,7 +8,7 @@ use borrow.Author.Needs.{needs}
 use borrow.Author.Tests.{le-leb, lt-leb, eq-eqb, ne-eqb}
 use lib.Dec.{eqb, leb}
 use lib.ListN.{length}
-use Rattle.controller.specs.Laws.State.{view-stored, start-sound, sound-test}
+use Rattle.controller.specs.Laws.State.{view-stored, start-sound, rules-test}
 use Rattle.controller.specs.Refusals.{startRefusal}
 use Rattle.controller.specs.Fields.{stateOf}
 use Rattle.controller.specs.State.{view, storedState, sound, startView}
@@ -115,7 +115,7 @@ whole c = c .fields-of .ensures ∙ c .before .before .first-state .ensures
 first-sound : (c : tie.After-fields-of) → sound (state c) ≡ true
 first-sound c =
     let passed = tested c in
-    ap sound (whole c) ∙ sound-test _ (start-sound _ _ (passed .before .before .if1 .left) (omega (arith, passed .before .if2 .left)))
+    ap sound (whole c) ∙ rules-test _ (start-sound _ _ (passed .before .before .if1 .left) (omega (arith, passed .before .if2 .left)))
 
 send-requires : tie.Need-send-requires
 send-requires c κs =

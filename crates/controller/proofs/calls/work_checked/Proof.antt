@@ -9,7 +9,7 @@ use borrow.Author.Tests.{lt-leb}
 use denote.Ref.{now}
 use Rattle.controller.specs.Calls.{Promise}
 use Rattle.controller.specs.Fields.{stateOf, answerOf}
-use Rattle.controller.specs.Laws.State.{sound-heard}
+use Rattle.controller.specs.Laws.State.{rules-heard}
 use Rattle.controller.specs.Refusals.{sendersFit, heardFit, listsFit}
 use Rattle.controller.specs.State.{View, view}
 use Rattle.controller.specs.declared.state.Answer.{Answer}
@@ -55,7 +55,7 @@ abbrev before : tie.After-hear → State
 before c = let a = given c .args in stateOf (a .fields) (now (a .heard)) (now (a .candidates)) (now (a .echoes))
 
 hear-requires : tie.Need-hear-requires
-hear-requires c κs = let pre = c .before .before .before .before .before .pre in (pre .packed, sound-heard _ (pre .sound), refl)
+hear-requires c κs = let pre = c .before .before .before .before .before .pre in (pre .packed, rules-heard _ (pre .sound), refl)
 
 work-heard-requires : tie.Need-work-heard-requires
 work-heard-requires c κs =

@@ -11,7 +11,7 @@ use lib.ListN.{length, length-append}
 use Rattle.controller.specs.Fields.{stateOf, answerOf}
 use Rattle.controller.specs.Laws.Work.Ready.{ready-short}
 use Rattle.controller.specs.Laws.Rules.{next-sound}
-use Rattle.controller.specs.Laws.State.{view-stored, sound-gives, sound-test}
+use Rattle.controller.specs.Laws.State.{view-stored, rules-give, rules-test}
 use Rattle.controller.specs.Calls.{Promise}
 use Rattle.controller.specs.Refusals.{listsFit}
 use Rattle.controller.specs.Rules.{next}
@@ -44,7 +44,7 @@ module _ {s : State} {b f : List ℕ} (ready : Ready s b f) (early : s .round < 
       let es = entries b in
       let both = and-eq-true-iff (leb (length ((next (view s) es) .rotor .candidates)) maxNumbers)
       (leb (length ((next (view s) es) .rotor .echoes)) maxNumbers) .0 fits in
-      sound-test _ (next-sound (view s) es (sound-gives s (ready .sound)) early (ready .numbered) (ready-short ready)
+      rules-test _ (next-sound (view s) es (rules-give s (ready .sound)) early (ready .numbered) (ready-short ready)
       (leb-true _ _ (both .0)) (leb-true _ _ (both .1)))
 
   echoes-inside : t ≡ true → g .echoes ≤ length e

@@ -13,7 +13,7 @@ use Rattle.wire.specs.Words.{Below}
 use Rattle.controller.specs.Fields.{stateOf}
 use Rattle.controller.specs.Laws.Work.Opened.{Opening, sent-few, own-sized, opening-start, lists-else, opening-more, opening-end}
 use Rattle.controller.specs.Laws.Work.Ready.{ready-size, ready-few, ready-short, ready-list, ready-alike}
-use Rattle.controller.specs.Laws.State.{sound-gives}
+use Rattle.controller.specs.Laws.State.{rules-give}
 use Rattle.controller.specs.Laws.Work.Tally.{nthList, list-at-sound, under-list}
 use Rattle.controller.specs.Laws.Work.Total.{total-has}
 use Rattle.controller.specs.Received.{receive, lists}
@@ -146,7 +146,7 @@ loop-again c =
     let l = lists (receivedBy (state at-loop) (now (a .tray))) in
     let so-far : Opening l (now (a .own)) (now (a .tray)) (v .starts) (v .counts) (v .sent) (v .len) (v .j) = rw (sym else) (v .inv .2) in
     let adds = rw (list-is (turn call)) at (received c .open-received .ensures) in
-    let sound = list-at-sound (view (state at-loop)) (entries (now (a .tray))) (sound-gives (state at-loop) (ready .sound)) (v .j) in
+    let sound = list-at-sound (view (state at-loop)) (entries (now (a .tray))) (rules-give (state at-loop) (ready .sound)) (v .j) in
     let more =
     opening-more l (call .alike .result) sound bytes (ready-short ready)
     (alike .some) (omega (arith, ready-size ready, alike .inside)) (ready-alike ready (v .j) (call .alike .result) alike) so-far adds in

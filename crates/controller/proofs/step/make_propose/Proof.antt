@@ -1,7 +1,7 @@
 -- `controller::step::make_propose` meets its contract: what the counts of values propose, and all other fields as they were, are the state of `makePropose`.
 use native.Mathlib.Omega.{arith}
 use Rattle.controller.specs.Laws.Rules.{kind-before}
-use Rattle.controller.specs.Laws.State.{sound-gives}
+use Rattle.controller.specs.Laws.State.{rules-give}
 use Rattle.controller.specs.Laws.Work.Step.{propose-made}
 use Rattle.controller.proofs.step.make_propose.Statement.{statement}
 use Rattle.controller.proofs.step.make_propose.Tie as tie
@@ -24,7 +24,7 @@ add-next c = omega (arith, counted c .before .before .pre .1)
 
 returns : tie.Need-returns
 returns c = λ w e ready k.
-    let values = rw (kind-before _ 0 (sound-gives _ (ready .sound) .early) k) at (counted c .count-bits .ensures .1 w e ready) in
+    let values = rw (kind-before _ 0 (rules-give _ (ready .sound) .early) k) at (counted c .count-bits .ensures .1 w e ready) in
     propose-made ready (counted c .count-bits .result) _ k values (c .before .proposal .ensures)
 
 pub make-propose-spec : {M : Type 1} → statement M

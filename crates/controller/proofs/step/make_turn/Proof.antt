@@ -3,7 +3,7 @@ use native.Mathlib.Omega.{arith}
 use denote.Ref.{now}
 use Rattle.controller.specs.Laws.Work.Ready.{ready-size}
 use Rattle.controller.specs.Laws.Rules.{kind-before}
-use Rattle.controller.specs.Laws.State.{sound-gives}
+use Rattle.controller.specs.Laws.State.{rules-give}
 use Rattle.controller.specs.Laws.Work.Step.{turn-made}
 use Rattle.controller.proofs.step.make_turn.Statement.{statement}
 use Rattle.controller.proofs.step.make_turn.Tie as tie
@@ -29,7 +29,7 @@ add-next c = omega (arith, (given c) .pre .1)
 
 returns : tie.Need-returns
 returns c = λ w e ready k.
-    let proposals = rw (kind-before _ 1 (sound-gives _ (ready .sound) .early) k) at (counted c .count-bits .ensures .1 w e ready) in
+    let proposals = rw (kind-before _ 1 (rules-give _ (ready .sound) .early) k) at (counted c .count-bits .ensures .1 w e ready) in
     turn-made ready (c .before .spoken .result) k
     (c .before .spoken .ensures (now ((given c) .args .heard)) w e _ proposals (ready-size ready))
 

@@ -1,5 +1,5 @@
 -- `controller::step::make_value` meets its contract: the lists have grown, and the bit is the one taken.
-use Rattle.controller.specs.Laws.State.{sound-heard}
+use Rattle.controller.specs.Laws.State.{rules-heard}
 use Rattle.controller.proofs.step.make_value.Statement.{statement}
 use Rattle.controller.proofs.step.make_value.Tie as tie
 
@@ -11,7 +11,7 @@ abbrev taken : tie.After-grow → tie.After-bit-taken
 taken c = c .before .before .before
 
 bit-taken-requires : tie.Need-bit-taken-requires
-bit-taken-requires c κs = sound-heard _ (c .before .pre .0 .sound)
+bit-taken-requires c κs = rules-heard _ (c .before .pre .0 .sound)
 
 grow-requires : tie.Need-grow-requires
 grow-requires c κs = given (c .before .before) .pre .0

@@ -5,7 +5,7 @@ use native.Mathlib.Omega.{arith}
 use borrow.Author.Needs.{needs}
 use Rattle.controller.specs.Laws.Work.Ready.{ready-few}
 use Rattle.controller.specs.Laws.Rules.{kind-above}
-use Rattle.controller.specs.Laws.State.{sound-gives}
+use Rattle.controller.specs.Laws.State.{rules-give}
 use Rattle.controller.specs.Laws.Work.Step.{echoes-empty}
 use Rattle.wire.specs.Frame.{kindOf}
 use Rattle.wire.specs.Laws.Frame.{kind-range}
@@ -28,7 +28,7 @@ turns c =
     let start = given (next-kind (c .before)) in
     let kind = next-kind (c .before) .kind-of .ensures in
     let t = start .args .fields .round in
-    let early = sound-gives _ (start .pre .0 .sound) .early in
+    let early = rules-give _ (start .pre .0 .sound) .early in
     let range = kind-range (t + 1) in
     omega (arith, kind, kind-above (t + 1) (omega arith), range .1, c .before .before .if1 .left, c .before .if2 .left, c .if3 .left)
 
@@ -53,7 +53,7 @@ make-propose-requires : tie.Need-make-propose-requires
 make-propose-requires c κs = let pre = (given (next-kind (c .before))) .pre in (ready-few (pre .0), pre .1)
 
 make-turn-requires : tie.Need-make-turn-requires
-make-turn-requires c κs = let pre = (given (next-kind (c .before))) .pre in (ready-few (pre .0), pre .1, sound-gives _ (pre .0 .sound) .bit)
+make-turn-requires c κs = let pre = (given (next-kind (c .before))) .pre in (ready-few (pre .0), pre .1, rules-give _ (pre .0 .sound) .bit)
 
 returns : tie.Need-returns
 returns c = let kind = c .before .before .before in c .make-roster .ensures _ _ ((given kind) .pre .0) (kind-is kind 2 (c .before .before .if1 .taken))

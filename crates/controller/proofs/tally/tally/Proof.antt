@@ -15,7 +15,7 @@ use Rattle.controller.specs.Work.Received.{receivedBy}
 use Rattle.controller.specs.Laws.Work.Opened.{lists-else}
 use Rattle.controller.specs.Laws.Work.Ready.{ready-size, ready-few}
 use Rattle.controller.specs.Laws.Received.{heard-some}
-use Rattle.controller.specs.Laws.State.{sound-gives, sound-candidates}
+use Rattle.controller.specs.Laws.State.{rules-give, rules-candidates}
 use Rattle.controller.specs.declared.state.State.{State}
 use Rattle.controller.proofs.tally.tally.Statement.{statement}
 use Rattle.controller.proofs.tally.tally.Tie as tie
@@ -79,9 +79,9 @@ walk-requires c κs =
     record {
       opens = at .open-lists .ensures .opens;
       most = ready-few (s .pre .0);
-      some = omega (arith, ready-size (s .pre .0), heard-some (view (state s)) (entries (now (s .args .tray))) (sound-gives (state s) (s .pre .0 .sound)));
+      some = omega (arith, ready-size (s .pre .0), heard-some (view (state s)) (entries (now (s .args .tray))) (rules-give (state s) (s .pre .0 .sound)));
       empty = s .pre .1;
-      candidates = sound-candidates (state s) (s .pre .0 .sound);
+      candidates = rules-candidates (state s) (s .pre .0 .sound);
     }
 
 returns : tie.Need-returns

@@ -16,13 +16,13 @@ use Rattle.wire.specs.declared.frame.Numbers.{Numbers}
 use Rattle.controller.specs.Lists.{In, Rising}
 use Rattle.controller.specs.Received.{ReceivedLists, lists}
 use Rattle.controller.specs.Rotation.{tally, echoed, candidatesAfter}
-use Rattle.controller.specs.State.{Rotor, view, sound}
+use Rattle.controller.specs.State.{Rotor, view, soundRules}
 use Rattle.controller.specs.Work.Received.{receivedBy}
 use Rattle.controller.specs.Work.Tally.{GrowsLists, HasJust, Crowd, TooMany, Tallies}
 use Rattle.controller.specs.Laws.Lists.{inside-length, rising-no-repeats, rising-same}
 use Rattle.controller.specs.Laws.Received.{heard-some}
 use Rattle.controller.specs.Laws.Rotation.{echoed-in, echoed-rising, candidates-in, candidates-rising}
-use Rattle.controller.specs.Laws.State.{sound-gives, sound-list-gives}
+use Rattle.controller.specs.Laws.State.{rules-give, sound-list-gives}
 use Rattle.controller.specs.declared.state.State.{State}
 use Rattle.controller.specs.declared.tally.Settled.{Settled}
 
@@ -50,7 +50,7 @@ module _ (c : Rotor) (l : ReceivedLists) (some : 0 < length (l .heard)) where
   too-many (inr crowd) = rw (crowd-many (candidatesAfter c l) crowd (λ y p. candidates-in c l some .1 p))
 
 -- the lists as they stand then
-module _ (s : State) (b : List ℕ) (test : sound s ≡ true) {e k : List ℕ} {r : Settled} (sorts : Tallies s b e k r) where
+module _ (s : State) (b : List ℕ) (test : soundRules s ≡ true) {e k : List ℕ} {r : Settled} (sorts : Tallies s b e k r) where
   abbrev c : Rotor
   c = (view s) .rotor
 
@@ -58,11 +58,11 @@ module _ (s : State) (b : List ℕ) (test : sound s ≡ true) {e k : List ℕ} {
   l = lists (receivedBy s b)
 
   somebody : 0 < length (l .heard)
-  somebody = heard-some (view s) (entries b) (sound-gives s test)
+  somebody = heard-some (view s) (entries b) (rules-give s test)
 
   pub sorted-grows : r .fits ≡ true → GrowsLists s b (record { fits = true; echoes = r .echoed; candidates = r .candidates }) k e
   sorted-grows fits =
-      let h = sound-gives s test in
+      let h = rules-give s test in
       let m : Numbers = record { len = r .echoed; at = e } in
       let n : Numbers = record { len = r .candidates; at = k } in
       let echoes : m ≡ stored (echoed c l) =

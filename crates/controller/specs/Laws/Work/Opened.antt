@@ -22,7 +22,7 @@ use Rattle.controller.specs.Rotation.{tally}
 use Rattle.controller.specs.Work.Received.{receivedBy, sentCount}
 use Rattle.controller.specs.Work.Opened.{total, endMark, maxLists, SpanOf, listFrom, openList, Lies, Opens, weighed, Adds, Openable, OpensAll}
 use Rattle.controller.specs.Laws.Lists.{true-or-false, count-run}
-use Rattle.controller.specs.Laws.State.{SoundList, sound-gives}
+use Rattle.controller.specs.Laws.State.{SoundList, rules-give}
 use Rattle.controller.specs.Laws.Work.Tally.{nthList, below-in, below-take, echoes-sized}
 use Rattle.controller.specs.Laws.Work.Total.{total-same, total-grows}
 use Rattle.controller.specs.declared.state.Fields.{Fields}
@@ -215,7 +215,7 @@ module _ {f : Fields} {h e b t s n w : List ℕ} (o : Openable f h e b t s n w) 
   sent-list = pick (ltb 0 (maxCount (kindOf (f .round))))
     where
       pick : (a : Bool) → (cond a (f .echoes) 0 ≤ maxNumbers) × SoundList (take (cond a (f .echoes) 0) e)
-      pick true = (echoes-sized state (o .ready .sound) .0, sound-gives state (o .ready .sound) .echoes)
+      pick true = (echoes-sized state (o .ready .sound) .0, rules-give state (o .ready .sound) .echoes)
       pick false = (omega arith, record { short = omega arith; rises = tt; positive = λ y i. absurd (List·Memᴰ·not-nil i) })
 
   pub sent-few : sentCount f ≤ maxNumbers

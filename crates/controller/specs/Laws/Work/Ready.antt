@@ -19,7 +19,7 @@ use Rattle.wire.specs.Tray.{entries}
 use Rattle.wire.specs.declared.frame.Numbers.{Numbers}
 use Rattle.controller.specs.Laws.Lists.{mem-in, mem-out, count-short, rising-place}
 use Rattle.controller.specs.Laws.Received.{unheard-received, bit-under, received-says, received-opinion}
-use Rattle.controller.specs.Laws.State.{sound-gives, sound-list-gives, sound-heard}
+use Rattle.controller.specs.Laws.State.{rules-give, sound-list-gives, rules-heard}
 use Rattle.controller.specs.Laws.Work.Tally.{nthList}
 use Rattle.controller.specs.Lists.{In, mem}
 use Rattle.controller.specs.Received.{readIn, receive, listIn, says, opinionIn, lists}
@@ -43,13 +43,13 @@ module _ {s : State} {b f : List ℕ} (ready : Ready s b f) where
   ready-listed = sym (ready .heard)
 
   pub ready-used : length (listed (s .heard)) ≡ s .heard .len
-  ready-used = sound-list-gives (s .heard) (sound-heard s (ready .sound)) .used
+  ready-used = sound-list-gives (s .heard) (rules-heard s (ready .sound)) .used
 
   pub ready-size : s .heard .len ≡ length ((receivedBy s b) .heard)
   ready-size = sym ready-used ∙ ap length ready-listed
 
   pub ready-few : s .heard .len ≤ maxNumbers
-  ready-few = omega (arith, ready-used, sound-list-gives (s .heard) (sound-heard s (ready .sound)) .list .short)
+  ready-few = omega (arith, ready-used, sound-list-gives (s .heard) (rules-heard s (ready .sound)) .list .short)
 
   pub ready-short : length ((receivedBy s b) .heard) ≤ maxNumbers
   ready-short = omega (arith, ready-size, ready-few)
@@ -83,7 +83,7 @@ module _ {s : State} {b f : List ℕ} (ready : Ready s b f) where
   ready-bit : (j : ℕ) → j < s .heard .len
       → bitUnder (s .own) (s .round) (s .said) b (getD (s .heard .at) j 0) (getD f j 0) ≡ bitIn ((receivedBy s b) .from (getD (listed (s .heard)) j 0))
   ready-bit j h =
-      bit-under (view s) (sound-gives s (ready .sound)) (eqb (getD (s .heard .at) j 0) (s .own)) (readIn (s .round) (noted b (getD f j 0)))
+      bit-under (view s) (rules-give s (ready .sound)) (eqb (getD (s .heard .at) j 0) (s .own)) (readIn (s .round) (noted b (getD f j 0)))
       ∙ ap bitIn (ready-content j h)
 
   pub ready-says : (j bit : ℕ) → j < s .heard .len → bit < 3
@@ -98,8 +98,8 @@ module _ {s : State} {b f : List ℕ} (ready : Ready s b f) where
       let bit : bitUnder (s .own) (s .round) (s .said) b x (getD f j 0) ≡ bitIn ((receivedBy s b) .from x) =
       ap (λ (y : ℕ). bitUnder (s .own) (s .round) (s .said) b y (getD f j 0)) (sym e) ∙ ready-bit j h
       ∙ ap (λ (y : ℕ). bitIn ((receivedBy s b) .from y)) (getD-take (s .heard .len) (s .heard .at) j 0 h ∙ e) in
-      received-opinion (view s) (entries b) (sound-gives s (ready .sound)) k x ∙ ap (λ (d : ℕ). cond (leb d 1) d 2) (sym bit)
+      received-opinion (view s) (entries b) (rules-give s (ready .sound)) k x ∙ ap (λ (d : ℕ). cond (leb d 1) d 2) (sym bit)
 
   -- of one that is not heard nothing is received
   pub ready-silent : (x : ℕ) → mem x (listed (s .heard)) ≡ false → (receivedBy s b) .from x ≡ none
-  ready-silent x t = unheard-received (view s) (entries b) (sound-gives s (ready .sound)) x (mem-out ((receivedBy s b) .heard) (ap (mem x) (ready .heard) ∙ t))
+  ready-silent x t = unheard-received (view s) (entries b) (rules-give s (ready .sound)) x (mem-out ((receivedBy s b) .heard) (ap (mem x) (ready .heard) ∙ t))

@@ -1,4 +1,4 @@
--- Laws of soundness as sound.rt tests it: its parts, taken together, are the rules' `sound`.
+-- Laws of soundness as sound.rt tests it: its parts, taken together, are the rules' `soundRules`.
 use Prim.Native.Nat.{ℕ}
 use mathlib.Core.Bool.{Bool, true, false, not, cond, _&&_, _||_, and-eq-true-iff, and-true, and-false}
 use mathlib.Core.List.{List}
@@ -10,7 +10,7 @@ use Rattle.wire.specs.Numbers.{listed}
 use Rattle.controller.specs.Fields.{stateOf, bare}
 use Rattle.controller.specs.Laws.State.{sound-list-gives}
 use Rattle.controller.specs.Lists.{mem}
-use Rattle.controller.specs.State.{view, soundList, soundSaid, soundEmpty, sound}
+use Rattle.controller.specs.State.{view, soundList, soundSaid, soundEmpty, soundRules}
 use Rattle.controller.specs.Work.Sound.{emptySound, bitsSound, fieldsSound, listsSound}
 use Rattle.controller.specs.declared.state.Fields.{Fields}
 use Rattle.controller.specs.declared.state.State.{State}
@@ -59,8 +59,8 @@ module _ (f : Fields) (h c e : List ℕ) where
       let echoed = sound-list-gives (state .echoes) (both .1) .used in
       rw (joined, echoed, until-or (f .round) 2, until-or (f .round) 1)
 
-  pub sound-parts : sound state ≡ (listsSound state && (fieldsSound f && not (eqb (f .own) 0) && mem (f .own) (listed (state .heard))))
-  unfolding sound
+  pub sound-parts : soundRules state ≡ (listsSound state && (fieldsSound f && not (eqb (f .own) 0) && mem (f .own) (listed (state .heard))))
+  unfolding soundRules
   sound-parts =
       reorder (roundFits (f .round)) (not (eqb (f .own) 0)) (mem (f .own) (listed (state .heard))) (listsSound state)
       (soundSaid (bare f)) (soundEmpty (view state)) (bitsSound f)

@@ -17,7 +17,7 @@ use Rattle.wire.specs.Tray.{wellFormed, entries}
 use Rattle.wire.specs.declared.frame.Numbers.{Numbers}
 use Rattle.controller.specs.Work.Lists.{inPlaces}
 use Rattle.controller.specs.Lists.{In}
-use Rattle.controller.specs.State.{View, view, storedState, sound, undecided, bitPart, stateFrom}
+use Rattle.controller.specs.State.{View, view, storedState, soundRules, undecided, bitPart, stateFrom}
 use Rattle.controller.specs.Received.{Received, senders, says, lists}
 use Rattle.controller.specs.Rotation.{roster, decides, kingAfter}
 use Rattle.controller.specs.Bit.{phase, decisionAfter, valueTwoThirds, proposal}
@@ -27,7 +27,7 @@ use Rattle.controller.specs.Work.Tally.{candidatesOf, echoesOf}
 use Rattle.controller.specs.Work.Bit.{proposedFrom, TurnsBit}
 use Rattle.controller.specs.Work.Step.{Grows, namedState, Makes}
 use Rattle.controller.specs.Laws.Lists.{keep-length}
-use Rattle.controller.specs.Laws.State.{sound-gives, sound-stored}
+use Rattle.controller.specs.Laws.State.{rules-give, rules-stored}
 use Rattle.controller.specs.Laws.Work.Ready.{ready-size, ready-short}
 use Rattle.controller.specs.Laws.Rules.{kind-init, heard-known, step-kind-roster, step-kind-value, step-kind-propose, step-kind-turn}
 use Rattle.controller.specs.declared.state.State.{State}
@@ -38,10 +38,10 @@ use Rattle.controller.specs.declared.bit.Turn.{Turn}
 -- ---- what a step finds
 
 -- a tray whose senders are all heard, with the notes on them
-pub ready-found : (s : State) (b f : List ℕ) → sound s ≡ true → wellFormed b ≡ true → ((x : ℕ) → In x (senders (entries b)) → In x (listed (s .heard)))
+pub ready-found : (s : State) (b f : List ℕ) → soundRules s ≡ true → wellFormed b ≡ true → ((x : ℕ) → In x (senders (entries b)) → In x (listed (s .heard)))
     → ((j : ℕ) → j < length (listed (s .heard)) → foundBy (getD f j 0) ≡ found b (getD (listed (s .heard)) j 0)) → Ready s b f
 ready-found s b f h packed known notes =
-    let heard = sound-gives s h .heard in
+    let heard = rules-give s h .heard in
     record {
       sound = h;
       packed = packed;
@@ -59,10 +59,10 @@ record Kept (s : State) : Type 0 where
   candidates : stored (listed (s .candidates)) ≡ s .candidates
   echoes : stored (listed (s .echoes)) ≡ s .echoes
 
-kept : (s : State) → sound s ≡ true → Kept s
+kept : (s : State) → soundRules s ≡ true → Kept s
 kept s h =
-    let v = sound-gives s h in
-    let back = sound-stored s h in
+    let v = rules-give s h in
+    let back = rules-stored s h in
     record {
       few-candidates = v .candidates .short;
       few-echoes = v .echoes .short;
@@ -73,12 +73,12 @@ kept s h =
 
 -- a state w whose lists fit is the one that is made
 makes : (s : State) (b : List ℕ) (w : View) (t : State) → next (view s) (entries b) ≡ w
-    → length (w .rotor .candidates) ≤ maxNumbers → length (w .rotor .echoes) ≤ maxNumbers → t ≡ storedState w
+    → length (w .rotor .candidates) ≤ maxNumbers → length (w .rotor .echoes) ≤ maxNumbers → t ≡ storedState w (s .first-rounds)
     → Makes s b true t
 makes s b w t e candidates echoes made =
     record {
       fits = rw (e, le-leb _ _ candidates, le-leb _ _ echoes);
-      made = λ q. made ∙ ap storedState (sym e);
+      made = λ q. made ∙ ap (λ (u : View). storedState u (s .first-rounds)) (sym e);
       kept = λ q. absurd (true≢false q);
     }
 
@@ -86,7 +86,7 @@ makes s b w t e candidates echoes made =
 abbrev pub grownState : State → Lists → ℕ → List ℕ → List ℕ → State
 grownState s l bit c e =
     stateFrom (s .own) (s .round + 1) (record { own = bit; said = bit; strong = s .strong; decision = s .decision })
-    (s .king) (s .heard) (inPlaces (l .candidates) c) (inPlaces (l .echoes) e)
+    (s .king) (s .heard) (inPlaces (l .candidates) c) (inPlaces (l .echoes) e) (s .first-rounds)
 
 -- what is proposed, from the counts of values
 proposed-is : (r : Received) (n : Counts) (h : ℕ) → CountsBits 3 r n → h ≡ length (r .heard) → proposedFrom (n .zeros) (n .ones) h ≡ proposal r
@@ -103,7 +103,7 @@ module _ {s : State} {b f : List ℕ} (r : Ready s b f) where
   -- making round 2 finds no echoes
   pub echoes-empty : kindOf (s .round + 1) ≡ 2 → s .echoes .at ≡ (stored []) .at
   echoes-empty k =
-      let v = sound-gives s (r .sound) in
+      let v = rules-give s (r .sound) in
       let none : listed (s .echoes) ≡ [] = v .no-echoes (omega (arith, kind-init (s .round) (v .early) k)) in
       ap (λ (n : Numbers). n .at) (sym (kept s (r .sound) .echoes) ∙ ap stored none)
 
@@ -112,18 +112,18 @@ module _ {s : State} {b f : List ℕ} (r : Ready s b f) where
   roster-few = omega (arith, keep-length (λ (x : ℕ). says 1 2 ((receivedBy s b) .from x)) ((receivedBy s b) .heard), ready-short r)
 
   pub roster-made : (echoes : Numbers) → kindOf (s .round + 1) ≡ 2 → echoes ≡ stored (roster (receivedBy s b))
-      → Makes s b true (stateFrom (s .own) (s .round + 1) (bitPart s) (s .king) (s .heard) (s .candidates) echoes)
+      → Makes s b true (stateFrom (s .own) (s .round + 1) (bitPart s) (s .king) (s .heard) (s .candidates) echoes (s .first-rounds))
   roster-made echoes k made =
       let old = kept s (r .sound) in
       let heard = heard-made in
       let candidates = sym (old .candidates) in
       makes s b (makeRoster (view s) (receivedBy s b)) _ (step-kind-roster (view s) (receivedBy s b) k) (old .few-candidates) roster-few
-      (λ i. stateFrom (s .own) (s .round + 1) (bitPart s) (s .king) (heard i) (candidates i) (made i))
+      (λ i. stateFrom (s .own) (s .round + 1) (bitPart s) (s .king) (heard i) (candidates i) (made i) (s .first-rounds))
 
   pub propose-made : (n : Counts) (said : ℕ) → kindOf (s .round + 1) ≡ 4
       → CountsBits 3 (receivedBy s b) n → said ≡ proposedFrom (n .zeros) (n .ones) (s .heard .len)
       → Makes s b true (stateFrom (s .own) (s .round + 1) (record { own = s .bit; said = said; strong = s .strong; decision = s .decision })
-      (s .king) (s .heard) (s .candidates) (s .echoes))
+      (s .king) (s .heard) (s .candidates) (s .echoes) (s .first-rounds))
   propose-made n said k counts proposed =
       let old = kept s (r .sound) in
       let heard = heard-made in
@@ -132,11 +132,11 @@ module _ {s : State} {b f : List ℕ} (r : Ready s b f) where
       let made : said ≡ proposal (receivedBy s b) = proposed ∙ proposed-is (receivedBy s b) n (s .heard .len) counts (ready-size r) in
       makes s b (makePropose (view s) (receivedBy s b)) _ (step-kind-propose (view s) (receivedBy s b) k) (old .few-candidates) (old .few-echoes)
       (λ i. stateFrom (s .own) (s .round + 1) (record { own = s .bit; said = made i; strong = s .strong; decision = s .decision })
-      (s .king) (heard i) (candidates i) (echoes i))
+      (s .king) (heard i) (candidates i) (echoes i) (s .first-rounds))
 
   pub turn-made : (t : Turn) → kindOf (s .round + 1) ≡ 5 → TurnsBit (view s) (receivedBy s b) t
       → Makes s b true (stateFrom (s .own) (s .round + 1) (record { own = t .bit; said = t .said; strong = t .strong; decision = s .decision })
-      (s .king) (s .heard) (s .candidates) (s .echoes))
+      (s .king) (s .heard) (s .candidates) (s .echoes) (s .first-rounds))
   turn-made t k made =
       let old = kept s (r .sound) in
       let heard = heard-made in
@@ -147,7 +147,7 @@ module _ {s : State} {b f : List ℕ} (r : Ready s b f) where
       let strong = made .strong in
       makes s b (makeTurn (view s) (receivedBy s b)) _ (step-kind-turn (view s) (receivedBy s b) k) (old .few-candidates) (old .few-echoes)
       (λ i. stateFrom (s .own) (s .round + 1) (record { own = bit i; said = said i; strong = strong i; decision = s .decision })
-      (s .king) (heard i) (candidates i) (echoes i))
+      (s .king) (heard i) (candidates i) (echoes i) (s .first-rounds))
 
 module _ {s : State} {b f : List ℕ} {l : Lists} {bit : ℕ} {c e : List ℕ} (g : Grows s b f l bit c e) where
   pub value-made : (t : State) → l .fits ≡ true → t ≡ namedState (grownState s l bit c e) (s .decision) (s .round / 3) → Makes s b true t
@@ -170,14 +170,14 @@ module _ {s : State} {b f : List ℕ} {l : Lists} {bit : ℕ} {c e : List ℕ} (
       record {
         fits = sym all ∙ rw next-is;
         made = λ q. named ∙ (λ i. stateFrom (s .own) (s .round + 1) (record { own = taken i; said = taken i; strong = s .strong; decision = decision i })
-            (king i) (heard i) (candidates i) (echoes i)) ∙ ap storedState (sym next-is);
+            (king i) (heard i) (candidates i) (echoes i) (s .first-rounds)) ∙ ap (λ (u : View). storedState u (s .first-rounds)) (sym next-is);
         kept = λ q. absurd (true≢false q);
       }
 
   -- lists that do not fit leave all as it was
   pub value-refused : l .fits ≡ false
       → Makes s b false (stateFrom (s .own) (s .round) (bitPart s)
-      (s .king) (s .heard) (inPlaces (s .candidates .len) c) (inPlaces (s .echoes .len) e))
+      (s .king) (s .heard) (inPlaces (s .candidates .len) c) (inPlaces (s .echoes .len) e) (s .first-rounds))
   value-refused fits =
       let stay = g .lists .kept fits in
       let candidates = stay .0 in
@@ -186,5 +186,5 @@ module _ {s : State} {b f : List ℕ} {l : Lists} {bit : ℕ} {c e : List ℕ} (
         fits = sym fits ∙ g .lists .fits ∙ rw (step-kind-value (view s) (receivedBy s b) (g .kind));
         made = λ q. absurd (true≢false (sym q));
         kept = λ q i. stateFrom (s .own) (s .round) (bitPart s)
-            (s .king) (s .heard) (inPlaces (s .candidates .len) (candidates i)) (inPlaces (s .echoes .len) (echoes i));
+            (s .king) (s .heard) (inPlaces (s .candidates .len) (candidates i)) (inPlaces (s .echoes .len) (echoes i)) (s .first-rounds);
       }

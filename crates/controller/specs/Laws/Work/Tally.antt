@@ -14,13 +14,13 @@ use Rattle.wire.specs.Numbers.{stored, listed}
 use Rattle.wire.specs.Tray.{Entry}
 use Rattle.wire.specs.Words.{Below}
 use Rattle.controller.specs.Lists.{In}
-use Rattle.controller.specs.State.{View, view, sound}
+use Rattle.controller.specs.State.{View, view, soundRules}
 use Rattle.controller.specs.Fields.{stateOf}
 use Rattle.controller.specs.Received.{ReceivedLists, frameOf, readIn, receive, listIn, lists}
 use Rattle.controller.specs.Work.Opened.{listUnder}
 use Rattle.controller.specs.Work.Received.{noted, contentUnder}
 use Rattle.controller.specs.Laws.Lists.{rising-gives}
-use Rattle.controller.specs.Laws.State.{SoundList, Sound, sound-gives, sound-stored}
+use Rattle.controller.specs.Laws.State.{SoundList, Sound, rules-give, rules-stored}
 use Rattle.controller.specs.Laws.Received.{received-allowed}
 use Rattle.controller.specs.declared.state.Fields.{Fields}
 use Rattle.controller.specs.declared.state.State.{State}
@@ -68,9 +68,9 @@ under-list f h c e b x i = pick (eqb x (f .own))
     pick false = refl
 
 -- the echoes of a sound state have their 64 places
-pub echoes-sized : (s : State) → sound s ≡ true → (s .echoes .len ≤ maxNumbers) × (length (s .echoes .at) ≡ maxNumbers)
+pub echoes-sized : (s : State) → soundRules s ≡ true → (s .echoes .len ≤ maxNumbers) × (length (s .echoes .at) ≡ maxNumbers)
 echoes-sized s test =
     let l = listed (s .echoes) in
-    let short : length l ≤ maxNumbers = sound-gives s test .echoes .short in
+    let short : length l ≤ maxNumbers = rules-give s test .echoes .short in
     let size : length ((stored l) .at) ≡ length l + (maxNumbers - length l) = simp (length-append, length-replicate) in
-    (omega (arith, ap (λ (t : State). t .echoes .len) (sound-stored s test)), omega (arith, ap (λ (t : State). length (t .echoes .at)) (sound-stored s test)))
+    (omega (arith, ap (λ (t : State). t .echoes .len) (rules-stored s test)), omega (arith, ap (λ (t : State). length (t .echoes .at)) (rules-stored s test)))

@@ -1,0 +1,98 @@
+// When each number was first heard: the record beside heard, which no rule of a step reads.
+ghost use mathlib.Core.Bool.{true, cond};
+ghost use mathlib.Core.List.{List, map, _++_};
+ghost use mathlib.Core.Path.{_≡_};
+ghost use Prim.Native.Nat.{ℕ, _≤_, _<_};
+ghost use lib.Dec.{eqb};
+ghost use lib.ListN.{length, take, drop};
+ghost use Rattle.wire.specs.Lent.{before, after};
+ghost use Rattle.wire.specs.Limits.{maxNumbers};
+ghost use Rattle.wire.specs.Numbers.{listed};
+ghost use Rattle.controller.specs.Lists.{countIf};
+ghost use Rattle.controller.specs.State.{soundList};
+ghost use Rattle.controller.specs.Work.First.{isZero, timely, RoundsSound, movedTo};
+ghost use Rattle.controller.specs.Work.Lists.{inPlaces};
+use crate::lists::ABSENT;
+use crate::lists::find_near;
+use wire::limits::MAX_NUMBERS;
+
+// The last round whose tray can be worked: the one before the last that is sent.
+const LAST_WORKED: u8 = 194;
+
+// 1 for 0, else 0.
+fn one_if_zero(x: u8) -> u8
+    ensures { λ r. ⌜ r ≡ cond (isZero x) 1 0 ⌝ }
+{
+    if x == 0 { 1 } else { 0 }
+}
+
+// How many of the first `len` places are 0.
+fn zeros(rounds: &[u8; MAX_NUMBERS], len: usize) -> u8
+    requires { ⌜ (len ≤ maxNumbers) × (length (now rounds) ≡ maxNumbers) ⌝ }
+    ensures { λ r. ⌜ r ≡ countIf isZero (take len (before rounds)) ⌝ }
+{
+    let mut zeros = 0;
+    let mut i = 0;
+    while i < len {
+        zeros += one_if_zero(rounds[i]);
+        i += 1;
+    }
+    zeros
+}
+
+// Whether no round is past the last that can be worked. Every place is looked at, so that the loop has no way out to wait for.
+fn all_timely(rounds: &[u8; MAX_NUMBERS]) -> bool
+    requires { ⌜ length (now rounds) ≡ maxNumbers ⌝ }
+    ensures { λ r. ⌜ r ≡ timely (before rounds) ⌝ }
+{
+    let mut ok = true;
+    let mut i = 0;
+    while i < MAX_NUMBERS {
+        ok = ok & (rounds[i] <= LAST_WORKED);
+        i += 1;
+    }
+    ok
+}
+
+// Whether the record is sound beside `len` numbers, of which the own one stands at place `own`. One 0 in the used places is the own number's, and as many
+// more as there are unused places are theirs: to count costs less than to test place by place.
+pub(crate) fn rounds_sound(first_rounds: &[u8; MAX_NUMBERS], len: usize, own: usize) -> bool
+    requires { ⌜ (len ≤ maxNumbers) × (own < len) ⌝ }
+    ensures { λ r. ⌜ RoundsSound len own (before first_rounds) r ⌝ }
+{
+    // The making of a slice shows how many places an array has.
+    let places = &first_rounds[..];
+    let used = zeros(first_rounds, len);
+    let all = zeros(first_rounds, MAX_NUMBERS);
+    (places[own] == 0)
+        & (used == 1)
+        & (all as usize + len == MAX_NUMBERS + 1)
+        & all_timely(first_rounds)
+}
+
+// Moves the record from beside the numbers `heard` to beside the numbers `all`, and gives each new number the tray's round.
+pub(crate) fn record_rounds(
+    heard: &[u32; MAX_NUMBERS],
+    len: usize,
+    all: &[u32; MAX_NUMBERS],
+    count: usize,
+    round: u8,
+    first_rounds: &mut [u8; MAX_NUMBERS],
+)
+    requires { ⌜ (soundList (inPlaces len (now heard)) ≡ true) × (count ≤ maxNumbers) ⌝ }
+    ensures { λ r. ⌜ after first_rounds ≡ movedTo (listed (inPlaces len (before heard))) (take count (before all)) round (before first_rounds) ⌝ }
+{
+    let old = *first_rounds;
+    let mut next = 0;
+    let mut j = 0;
+    while j < count {
+        let found = find_near(heard, len, all[j], next);
+        if found < ABSENT {
+            first_rounds[j] = old[found];
+            next = found + 1;
+        } else {
+            first_rounds[j] = round;
+        }
+        j += 1;
+    }
+}
