@@ -42,7 +42,7 @@ StartPromise number bit given r left = Promise (startRefusal number bit (length 
 abbrev pub TrayPromise : State → List ℕ → List ℕ → Answer → List ℕ → Type 0
 TrayPromise s tray given r left = Promise (trayRefusal s tray (length given)) (next (view s) (entries tray)) (roundsAfter s (entries tray)) s given r left
 
--- work(fields, heard, candidates, echoes, first_rounds, tray, out)
+-- work(fields, heard, candidates, echoes, since, tray, out)
 abbrev pub WorkPromise : Fields → Lent → Lent → Lent → Lent → Lent → Lent → Worked → Type 0
 WorkPromise f h c e p tray out r =
     TrayPromise (wholeBefore f h c e p) (before tray) (before out) (answerOf r (after h) (after c) (after e) (after p)) (after out)

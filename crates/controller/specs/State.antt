@@ -59,7 +59,7 @@ view s =
 
 -- "The state gains, beside each heard number, the round of the tray that first brought it"
 abbrev pub firstRounds : State → List ℕ
-firstRounds s = take (length (listed (s .heard))) (s .first-rounds)
+firstRounds s = take (length (listed (s .heard))) (s .since)
 
 abbrev pub stateFrom : ℕ → ℕ → BitPart → ℕ → Numbers → Numbers → Numbers → List ℕ → State
 stateFrom own round bit king heard candidates echoes rounds =
@@ -74,7 +74,7 @@ stateFrom own round bit king heard candidates echoes rounds =
       heard = heard;
       candidates = candidates;
       echoes = echoes;
-      first-rounds = rounds;
+      since = rounds;
     }
 
 abbrev pub storedState : View → List ℕ → State
@@ -154,4 +154,4 @@ unfoldable pub soundBeside : ℕ → List ℕ → List ℕ → Bool
 soundBeside own l w = let used = take (length l) w in alongside (firstFits own) l used && same w (recorded used)
 
 unfoldable pub sound : State → Bool
-sound s = soundRules s && soundBeside (s .own) (listed (s .heard)) (s .first-rounds)
+sound s = soundRules s && soundBeside (s .own) (listed (s .heard)) (s .since)

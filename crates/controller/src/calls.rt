@@ -47,7 +47,7 @@ fn zero_state() -> State
         heard: none,
         candidates: none,
         echoes: none,
-        first_rounds: [0; MAX_NUMBERS],
+        since: [0; MAX_NUMBERS],
     }
 }
 
@@ -69,7 +69,7 @@ fn first_state(number: u32, bit: u8) -> State
         heard,
         candidates: none,
         echoes: none,
-        first_rounds: [0; MAX_NUMBERS],
+        since: [0; MAX_NUMBERS],
     }
 }
 
@@ -164,12 +164,12 @@ fn work_checked(
     heard: &mut [u32; MAX_NUMBERS],
     candidates: &mut [u32; MAX_NUMBERS],
     echoes: &mut [u32; MAX_NUMBERS],
-    first_rounds: &mut [u8; MAX_NUMBERS],
+    since: &mut [u8; MAX_NUMBERS],
     tray: &[u8],
     out: &mut [u8],
 ) -> Worked
-    requires { ⌜ Checked (wholeGiven fields heard candidates echoes first_rounds) (now tray) (length (now out)) ⌝ }
-    ensures { λ r. ⌜ WorkPromise fields heard candidates echoes first_rounds tray out r ⌝ }
+    requires { ⌜ Checked (wholeGiven fields heard candidates echoes since) (now tray) (length (now out)) ⌝ }
+    ensures { λ r. ⌜ WorkPromise fields heard candidates echoes since tray out r ⌝ }
 {
     let mut after = *heard;
     let mut notes = [NO_FRAME; MAX_NUMBERS];
@@ -180,14 +180,7 @@ fn work_checked(
         let worked = work_heard(more, &after, candidates, echoes, tray, &notes, out);
         if worked.refusal == 0 {
             if fields.heard < len {
-                record_rounds(
-                    heard,
-                    fields.heard,
-                    &after,
-                    len,
-                    fields.round as u8,
-                    first_rounds,
-                );
+                record_rounds(heard, fields.heard, &after, len, fields.round as u8, since);
                 *heard = after;
             }
             worked
@@ -207,13 +200,13 @@ fn early_refusal(
     heard: &[u32; MAX_NUMBERS],
     candidates: &[u32; MAX_NUMBERS],
     echoes: &[u32; MAX_NUMBERS],
-    first_rounds: &[u8; MAX_NUMBERS],
+    since: &[u8; MAX_NUMBERS],
     tray: &[u8],
     room: usize,
 ) -> u8
-    ensures { λ r. ⌜ r ≡ earlyRefusal (wholeBefore fields heard candidates echoes first_rounds) (before tray) room ⌝ }
+    ensures { λ r. ⌜ r ≡ earlyRefusal (wholeBefore fields heard candidates echoes since) (before tray) room ⌝ }
 {
-    if !is_sound(fields, heard, candidates, echoes, first_rounds) {
+    if !is_sound(fields, heard, candidates, echoes, since) {
         1
     } else if LAST_ROUND <= fields.round {
         2
@@ -234,23 +227,15 @@ pub fn work(
     heard: &mut [u32; MAX_NUMBERS],
     candidates: &mut [u32; MAX_NUMBERS],
     echoes: &mut [u32; MAX_NUMBERS],
-    first_rounds: &mut [u8; MAX_NUMBERS],
+    since: &mut [u8; MAX_NUMBERS],
     tray: &[u8],
     out: &mut [u8],
 ) -> Worked
-    ensures { λ r. ⌜ WorkPromise fields heard candidates echoes first_rounds tray out r ⌝ }
+    ensures { λ r. ⌜ WorkPromise fields heard candidates echoes since tray out r ⌝ }
 {
-    let refusal = early_refusal(
-        fields,
-        heard,
-        candidates,
-        echoes,
-        first_rounds,
-        tray,
-        out.len(),
-    );
+    let refusal = early_refusal(fields, heard, candidates, echoes, since, tray, out.len());
     if refusal == 0 {
-        work_checked(fields, heard, candidates, echoes, first_rounds, tray, out)
+        work_checked(fields, heard, candidates, echoes, since, tray, out)
     } else {
         refused_in_place(refusal, fields)
     }
@@ -263,13 +248,13 @@ pub fn tray(state: State, tray: &[u8], out: &mut [u8]) -> Answer
     let mut heard = state.heard;
     let mut candidates = state.candidates;
     let mut echoes = state.echoes;
-    let mut first_rounds = state.first_rounds;
+    let mut since = state.since;
     let worked = work(
         fields_of(state),
         &mut heard.at,
         &mut candidates.at,
         &mut echoes.at,
-        &mut first_rounds,
+        &mut since,
         tray,
         out,
     );
@@ -288,7 +273,7 @@ pub fn tray(state: State, tray: &[u8], out: &mut [u8]) -> Answer
         heard,
         candidates,
         echoes,
-        first_rounds,
+        since,
     };
     Answer {
         refusal: worked.refusal,

@@ -56,18 +56,15 @@ fn all_timely(rounds: &[u8; MAX_NUMBERS]) -> bool
 
 // Whether the record is sound beside `len` numbers, of which the own one stands at place `own`. One 0 in the used places is the own number's, and as many
 // more as there are unused places are theirs: to count costs less than to test place by place.
-pub(crate) fn rounds_sound(first_rounds: &[u8; MAX_NUMBERS], len: usize, own: usize) -> bool
+pub(crate) fn rounds_sound(since: &[u8; MAX_NUMBERS], len: usize, own: usize) -> bool
     requires { ⌜ (len ≤ maxNumbers) × (own < len) ⌝ }
-    ensures { λ r. ⌜ RoundsSound len own (before first_rounds) r ⌝ }
+    ensures { λ r. ⌜ RoundsSound len own (before since) r ⌝ }
 {
     // The making of a slice shows how many places an array has.
-    let places = &first_rounds[..];
-    let used = zeros(first_rounds, len);
-    let all = zeros(first_rounds, MAX_NUMBERS);
-    (places[own] == 0)
-        & (used == 1)
-        & (all as usize + len == MAX_NUMBERS + 1)
-        & all_timely(first_rounds)
+    let places = &since[..];
+    let used = zeros(since, len);
+    let all = zeros(since, MAX_NUMBERS);
+    (places[own] == 0) & (used == 1) & (all as usize + len == MAX_NUMBERS + 1) & all_timely(since)
 }
 
 // Moves the record from beside the numbers `heard` to beside the numbers `all`, and gives each new number the tray's round.
@@ -77,21 +74,21 @@ pub(crate) fn record_rounds(
     all: &[u32; MAX_NUMBERS],
     count: usize,
     round: u8,
-    first_rounds: &mut [u8; MAX_NUMBERS],
+    since: &mut [u8; MAX_NUMBERS],
 )
     requires { ⌜ (soundList (inPlaces len (now heard)) ≡ true) × (count ≤ maxNumbers) ⌝ }
-    ensures { λ r. ⌜ after first_rounds ≡ movedTo (listed (inPlaces len (before heard))) (take count (before all)) round (before first_rounds) ⌝ }
+    ensures { λ r. ⌜ after since ≡ movedTo (listed (inPlaces len (before heard))) (take count (before all)) round (before since) ⌝ }
 {
-    let old = *first_rounds;
+    let old = *since;
     let mut next = 0;
     let mut j = 0;
     while j < count {
         let found = find_near(heard, len, all[j], next);
         if found < ABSENT {
-            first_rounds[j] = old[found];
+            since[j] = old[found];
             next = found + 1;
         } else {
-            first_rounds[j] = round;
+            since[j] = round;
         }
         j += 1;
     }

@@ -92,16 +92,14 @@ pub fn is_sound(
     heard: &[u32; MAX_NUMBERS],
     candidates: &[u32; MAX_NUMBERS],
     echoes: &[u32; MAX_NUMBERS],
-    first_rounds: &[u8; MAX_NUMBERS],
+    since: &[u8; MAX_NUMBERS],
 ) -> bool
-    ensures { λ r. ⌜ r ≡ sound (wholeBefore fields heard candidates echoes first_rounds) ⌝ }
+    ensures { λ r. ⌜ r ≡ sound (wholeBefore fields heard candidates echoes since) ⌝ }
 {
     if lists_sound(fields, heard, candidates, echoes) {
         let place = place_in(heard, fields.heard, fields.own);
         if has_at(heard, fields.heard, place, fields.own) {
-            fields_sound(fields)
-                & (fields.own != 0)
-                & rounds_sound(first_rounds, fields.heard, place)
+            fields_sound(fields) & (fields.own != 0) & rounds_sound(since, fields.heard, place)
         } else {
             false
         }
@@ -112,7 +110,7 @@ pub fn is_sound(
 
 // A state's fields, without the places of its lists.
 pub fn fields_of(state: State) -> Fields
-    ensures { λ r. ⌜ wholeOf r (state .heard .at) (state .candidates .at) (state .echoes .at) (state .first_rounds) ≡ state ⌝ }
+    ensures { λ r. ⌜ wholeOf r (state .heard .at) (state .candidates .at) (state .echoes .at) (state .since) ≡ state ⌝ }
 {
     let heard = state.heard;
     let candidates = state.candidates;

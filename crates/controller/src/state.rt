@@ -21,7 +21,7 @@ pub struct State {
     pub candidates: Numbers,
     pub echoes: Numbers,
     // Beside each number of heard, the round of the tray that first brought it; 0 for the own number.
-    pub first_rounds: [u8; MAX_NUMBERS],
+    pub since: [u8; MAX_NUMBERS],
 }
 
 // The refusal, 0 for none; the state after the call; the length of the frame written, 0 when refused.

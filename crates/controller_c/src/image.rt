@@ -16,7 +16,6 @@ use crate::layout::CANDIDATES_AT;
 use crate::layout::COUNT_BYTES;
 use crate::layout::DECISION_AT;
 use crate::layout::ECHOES_AT;
-use crate::layout::FIRST_ROUNDS_AT;
 use crate::layout::HEARD_AT;
 use crate::layout::IMAGE_BYTES;
 use crate::layout::KING_AT;
@@ -25,6 +24,7 @@ use crate::layout::OWN_BIT_AT;
 use crate::layout::RESERVED_AT;
 use crate::layout::ROUND_AT;
 use crate::layout::SAID_AT;
+use crate::layout::SINCE_AT;
 use crate::layout::STRONG_AT;
 use crate::word::put_word;
 use crate::word::word;
@@ -87,7 +87,7 @@ pub(crate) fn take_rounds(image: &[u8]) -> [u8; MAX_NUMBERS] {
     let mut rounds = [0u8; MAX_NUMBERS];
     let mut i = 0;
     while i < MAX_NUMBERS {
-        rounds[i] = image[FIRST_ROUNDS_AT + i];
+        rounds[i] = image[SINCE_AT + i];
         i += 1;
     }
     rounds
@@ -135,8 +135,8 @@ pub(crate) fn is_sound_image(image: &[u8]) -> bool
         let mut candidates = [0u32; MAX_NUMBERS];
         let mut echoes = [0u32; MAX_NUMBERS];
         let fields = take_apart(image, &mut heard, &mut candidates, &mut echoes);
-        let first_rounds = take_rounds(image);
-        is_sound(fields, &heard, &candidates, &echoes, &first_rounds)
+        let since = take_rounds(image);
+        is_sound(fields, &heard, &candidates, &echoes, &since)
     } else {
         false
     }
@@ -211,11 +211,11 @@ fn put_lists(
     put_list(image, ECHOES_AT, echoes, fields.echoes);
 }
 
-fn put_rounds(image: &mut [u8], first_rounds: &[u8; MAX_NUMBERS]) {
-    let rounds = *first_rounds;
+fn put_rounds(image: &mut [u8], since: &[u8; MAX_NUMBERS]) {
+    let rounds = *since;
     let mut i = 0;
     while i < MAX_NUMBERS {
-        image[FIRST_ROUNDS_AT + i] = rounds[i];
+        image[SINCE_AT + i] = rounds[i];
         i += 1;
     }
 }
@@ -226,7 +226,7 @@ pub(crate) fn lay_out(
     heard: &[u32; MAX_NUMBERS],
     candidates: &[u32; MAX_NUMBERS],
     echoes: &[u32; MAX_NUMBERS],
-    first_rounds: &[u8; MAX_NUMBERS],
+    since: &[u8; MAX_NUMBERS],
     image: &mut [u8],
 )
     requires { ⌜ (sound (stateGiven fields heard candidates echoes) ≡ true) × (length (now image) ≡ imageBytes) ⌝ }
@@ -234,6 +234,6 @@ pub(crate) fn lay_out(
 {
     put_head(image, fields);
     put_lists(image, fields, heard, candidates, echoes);
-    put_rounds(image, first_rounds);
+    put_rounds(image, since);
     clear(image, RESERVED_AT, IMAGE_BYTES);
 }

@@ -21,7 +21,7 @@ pub(crate) const CANDIDATES_AT: usize = 276;
 
 pub(crate) const ECHOES_AT: usize = 536;
 
-pub(crate) const FIRST_ROUNDS_AT: usize = 796;
+pub(crate) const SINCE_AT: usize = 796;
 
 pub(crate) const RESERVED_AT: usize = 860;
 

@@ -18,11 +18,11 @@ use crate::layout::CANDIDATES_AT;
 use crate::layout::COUNT_BYTES;
 use crate::layout::DECISION_AT;
 use crate::layout::ECHOES_AT;
-use crate::layout::FIRST_ROUNDS_AT;
 use crate::layout::HEARD_AT;
 use crate::layout::IMAGE_BYTES;
 use crate::layout::KING_AT;
 use crate::layout::ROUND_AT;
+use crate::layout::SINCE_AT;
 use crate::word::word;
 use controller::calls::start;
 use controller::calls::work;
@@ -42,7 +42,7 @@ fn hand_over(
     heard: &[u32; MAX_NUMBERS],
     candidates: &[u32; MAX_NUMBERS],
     echoes: &[u32; MAX_NUMBERS],
-    first_rounds: &[u8; MAX_NUMBERS],
+    since: &[u8; MAX_NUMBERS],
     image: &mut [u8],
     written: &mut usize,
 ) -> u8
@@ -53,7 +53,7 @@ fn hand_over(
     let refusal = worked.refusal;
     if refusal == 0 {
         let fields = worked.fields;
-        lay_out(fields, heard, candidates, echoes, first_rounds, image);
+        lay_out(fields, heard, candidates, echoes, since, image);
     }
     refusal
 }
@@ -83,7 +83,7 @@ pub extern "C" fn controller_start(
         let heard = state.heard;
         let candidates = state.candidates;
         let echoes = state.echoes;
-        let first_rounds = state.first_rounds;
+        let since = state.since;
         let worked = Worked {
             refusal: answer.refusal,
             fields: fields_of(state),
@@ -94,7 +94,7 @@ pub extern "C" fn controller_start(
             &heard.at,
             &candidates.at,
             &echoes.at,
-            &first_rounds,
+            &since,
             image,
             written,
         )
@@ -117,26 +117,18 @@ pub extern "C" fn controller_tray(
         let mut heard = [0u32; MAX_NUMBERS];
         let mut candidates = [0u32; MAX_NUMBERS];
         let mut echoes = [0u32; MAX_NUMBERS];
-        let mut first_rounds = take_rounds(image);
+        let mut since = take_rounds(image);
         let fields = take_apart(image, &mut heard, &mut candidates, &mut echoes);
         let worked = work(
             fields,
             &mut heard,
             &mut candidates,
             &mut echoes,
-            &mut first_rounds,
+            &mut since,
             tray,
             out,
         );
-        hand_over(
-            worked,
-            &heard,
-            &candidates,
-            &echoes,
-            &first_rounds,
-            image,
-            written,
-        )
+        hand_over(worked, &heard, &candidates, &echoes, &since, image, written)
     } else {
         no_image(written)
     }
@@ -230,7 +222,7 @@ pub extern "C" fn controller_heard_number(image: &[u8], i: u32) -> u32 {
 pub extern "C" fn controller_first_round(image: &[u8], i: u32) -> u32 {
     let place = i as usize;
     if (place < MAX_NUMBERS) && is_sound_image(image) {
-        image[FIRST_ROUNDS_AT + place] as u32
+        image[SINCE_AT + place] as u32
     } else {
         0
     }

@@ -175,11 +175,11 @@ tests-sound s t =
 
 pub sound-rules : (s : State) → sound s ≡ true → soundRules s ≡ true
 unfolding sound
-sound-rules s h = and-eq-true-iff (soundRules s) (soundBeside (s .own) (listed (s .heard)) (s .first-rounds)) .0 h .0
+sound-rules s h = and-eq-true-iff (soundRules s) (soundBeside (s .own) (listed (s .heard)) (s .since)) .0 h .0
 
-pub sound-beside : (s : State) → sound s ≡ true → soundBeside (s .own) (listed (s .heard)) (s .first-rounds) ≡ true
+pub sound-beside : (s : State) → sound s ≡ true → soundBeside (s .own) (listed (s .heard)) (s .since) ≡ true
 unfolding sound
-sound-beside s h = and-eq-true-iff (soundRules s) (soundBeside (s .own) (listed (s .heard)) (s .first-rounds)) .0 h .1
+sound-beside s h = and-eq-true-iff (soundRules s) (soundBeside (s .own) (listed (s .heard)) (s .since)) .0 h .1
 
 pub rules-give : (s : State) → soundRules s ≡ true → Sound (view s)
 unfolding roundFits
@@ -215,14 +215,14 @@ pub rules-candidates : (s : State) → soundRules s ≡ true → soundList (s .c
 rules-candidates s h = tests-give s h .candidates
 
 -- a sound state is the stored form of its view, beside its record
-pub rules-stored : (s : State) → soundRules s ≡ true → storedState (view s) (s .first-rounds) ≡ s
+pub rules-stored : (s : State) → soundRules s ≡ true → storedState (view s) (s .since) ≡ s
 rules-stored s h =
     let t = tests-give s h in
     let heard = sound-list-gives (s .heard) (t .heard) .back in
     let candidates = sound-list-gives (s .candidates) (t .candidates) .back in
     let echoes = sound-list-gives (s .echoes) (t .echoes) .back in
     λ i.
-    stateFrom (s .own) (s .round) (bitPart s) (s .king) (heard i) (candidates i) (echoes i) (s .first-rounds)
+    stateFrom (s .own) (s .round) (bitPart s) (s .king) (heard i) (candidates i) (echoes i) (s .since)
 
 pub rules-test : (v : View) (p : List ℕ) → Sound v → soundRules (storedState v p) ≡ true
 unfolding roundFits

@@ -40,11 +40,11 @@ unfoldable pub namedState : State → ℕ → ℕ → State
 namedState n d r =
     let stops = eqb d 2 && leb (n .candidates .len) r in
     stateFrom (n .own) (n .round) (record { own = n .bit; said = n .said; strong = n .strong; decision = cond stops (n .bit) (n .decision) })
-    (cond (eqb d 2 && not stops) (getD (listed (n .candidates)) r 0) 0) (n .heard) (n .candidates) (n .echoes) (n .first-rounds)
+    (cond (eqb d 2 && not stops) (getD (listed (n .candidates)) r 0) 0) (n .heard) (n .candidates) (n .echoes) (n .since)
 
 pub record Makes (s : State) (b : List ℕ) (r : Bool) (t : State) : Type 0 where
   pub fits : r ≡ listsFit (view s) (entries b)
-  pub made : r ≡ true → t ≡ storedState (next (view s) (entries b)) (s .first-rounds)
+  pub made : r ≡ true → t ≡ storedState (next (view s) (entries b)) (s .since)
   pub kept : r ≡ false → t ≡ s
 
 -- the step changes the fields and the echoes alone

@@ -73,12 +73,12 @@ kept s h =
 
 -- a state w whose lists fit is the one that is made
 makes : (s : State) (b : List ℕ) (w : View) (t : State) → next (view s) (entries b) ≡ w
-    → length (w .rotor .candidates) ≤ maxNumbers → length (w .rotor .echoes) ≤ maxNumbers → t ≡ storedState w (s .first-rounds)
+    → length (w .rotor .candidates) ≤ maxNumbers → length (w .rotor .echoes) ≤ maxNumbers → t ≡ storedState w (s .since)
     → Makes s b true t
 makes s b w t e candidates echoes made =
     record {
       fits = rw (e, le-leb _ _ candidates, le-leb _ _ echoes);
-      made = λ q. made ∙ ap (λ (u : View). storedState u (s .first-rounds)) (sym e);
+      made = λ q. made ∙ ap (λ (u : View). storedState u (s .since)) (sym e);
       kept = λ q. absurd (true≢false q);
     }
 
@@ -86,7 +86,7 @@ makes s b w t e candidates echoes made =
 abbrev pub grownState : State → Lists → ℕ → List ℕ → List ℕ → State
 grownState s l bit c e =
     stateFrom (s .own) (s .round + 1) (record { own = bit; said = bit; strong = s .strong; decision = s .decision })
-    (s .king) (s .heard) (inPlaces (l .candidates) c) (inPlaces (l .echoes) e) (s .first-rounds)
+    (s .king) (s .heard) (inPlaces (l .candidates) c) (inPlaces (l .echoes) e) (s .since)
 
 -- what is proposed, from the counts of values
 proposed-is : (r : Received) (n : Counts) (h : ℕ) → CountsBits 3 r n → h ≡ length (r .heard) → proposedFrom (n .zeros) (n .ones) h ≡ proposal r
@@ -112,18 +112,18 @@ module _ {s : State} {b f : List ℕ} (r : Ready s b f) where
   roster-few = omega (arith, keep-length (λ (x : ℕ). says 1 2 ((receivedBy s b) .from x)) ((receivedBy s b) .heard), ready-short r)
 
   pub roster-made : (echoes : Numbers) → kindOf (s .round + 1) ≡ 2 → echoes ≡ stored (roster (receivedBy s b))
-      → Makes s b true (stateFrom (s .own) (s .round + 1) (bitPart s) (s .king) (s .heard) (s .candidates) echoes (s .first-rounds))
+      → Makes s b true (stateFrom (s .own) (s .round + 1) (bitPart s) (s .king) (s .heard) (s .candidates) echoes (s .since))
   roster-made echoes k made =
       let old = kept s (r .sound) in
       let heard = heard-made in
       let candidates = sym (old .candidates) in
       makes s b (makeRoster (view s) (receivedBy s b)) _ (step-kind-roster (view s) (receivedBy s b) k) (old .few-candidates) roster-few
-      (λ i. stateFrom (s .own) (s .round + 1) (bitPart s) (s .king) (heard i) (candidates i) (made i) (s .first-rounds))
+      (λ i. stateFrom (s .own) (s .round + 1) (bitPart s) (s .king) (heard i) (candidates i) (made i) (s .since))
 
   pub propose-made : (n : Counts) (said : ℕ) → kindOf (s .round + 1) ≡ 4
       → CountsBits 3 (receivedBy s b) n → said ≡ proposedFrom (n .zeros) (n .ones) (s .heard .len)
       → Makes s b true (stateFrom (s .own) (s .round + 1) (record { own = s .bit; said = said; strong = s .strong; decision = s .decision })
-      (s .king) (s .heard) (s .candidates) (s .echoes) (s .first-rounds))
+      (s .king) (s .heard) (s .candidates) (s .echoes) (s .since))
   propose-made n said k counts proposed =
       let old = kept s (r .sound) in
       let heard = heard-made in
@@ -132,11 +132,11 @@ module _ {s : State} {b f : List ℕ} (r : Ready s b f) where
       let made : said ≡ proposal (receivedBy s b) = proposed ∙ proposed-is (receivedBy s b) n (s .heard .len) counts (ready-size r) in
       makes s b (makePropose (view s) (receivedBy s b)) _ (step-kind-propose (view s) (receivedBy s b) k) (old .few-candidates) (old .few-echoes)
       (λ i. stateFrom (s .own) (s .round + 1) (record { own = s .bit; said = made i; strong = s .strong; decision = s .decision })
-      (s .king) (heard i) (candidates i) (echoes i) (s .first-rounds))
+      (s .king) (heard i) (candidates i) (echoes i) (s .since))
 
   pub turn-made : (t : Turn) → kindOf (s .round + 1) ≡ 5 → TurnsBit (view s) (receivedBy s b) t
       → Makes s b true (stateFrom (s .own) (s .round + 1) (record { own = t .bit; said = t .said; strong = t .strong; decision = s .decision })
-      (s .king) (s .heard) (s .candidates) (s .echoes) (s .first-rounds))
+      (s .king) (s .heard) (s .candidates) (s .echoes) (s .since))
   turn-made t k made =
       let old = kept s (r .sound) in
       let heard = heard-made in
@@ -147,7 +147,7 @@ module _ {s : State} {b f : List ℕ} (r : Ready s b f) where
       let strong = made .strong in
       makes s b (makeTurn (view s) (receivedBy s b)) _ (step-kind-turn (view s) (receivedBy s b) k) (old .few-candidates) (old .few-echoes)
       (λ i. stateFrom (s .own) (s .round + 1) (record { own = bit i; said = said i; strong = strong i; decision = s .decision })
-      (s .king) (heard i) (candidates i) (echoes i) (s .first-rounds))
+      (s .king) (heard i) (candidates i) (echoes i) (s .since))
 
 module _ {s : State} {b f : List ℕ} {l : Lists} {bit : ℕ} {c e : List ℕ} (g : Grows s b f l bit c e) where
   pub value-made : (t : State) → l .fits ≡ true → t ≡ namedState (grownState s l bit c e) (s .decision) (s .round / 3) → Makes s b true t
@@ -170,14 +170,14 @@ module _ {s : State} {b f : List ℕ} {l : Lists} {bit : ℕ} {c e : List ℕ} (
       record {
         fits = sym all ∙ rw next-is;
         made = λ q. named ∙ (λ i. stateFrom (s .own) (s .round + 1) (record { own = taken i; said = taken i; strong = s .strong; decision = decision i })
-            (king i) (heard i) (candidates i) (echoes i) (s .first-rounds)) ∙ ap (λ (u : View). storedState u (s .first-rounds)) (sym next-is);
+            (king i) (heard i) (candidates i) (echoes i) (s .since)) ∙ ap (λ (u : View). storedState u (s .since)) (sym next-is);
         kept = λ q. absurd (true≢false q);
       }
 
   -- lists that do not fit leave all as it was
   pub value-refused : l .fits ≡ false
       → Makes s b false (stateFrom (s .own) (s .round) (bitPart s)
-      (s .king) (s .heard) (inPlaces (s .candidates .len) c) (inPlaces (s .echoes .len) e) (s .first-rounds))
+      (s .king) (s .heard) (inPlaces (s .candidates .len) c) (inPlaces (s .echoes .len) e) (s .since))
   value-refused fits =
       let stay = g .lists .kept fits in
       let candidates = stay .0 in
@@ -186,5 +186,5 @@ module _ {s : State} {b f : List ℕ} {l : Lists} {bit : ℕ} {c e : List ℕ} (
         fits = sym fits ∙ g .lists .fits ∙ rw (step-kind-value (view s) (receivedBy s b) (g .kind));
         made = λ q. absurd (true≢false (sym q));
         kept = λ q i. stateFrom (s .own) (s .round) (bitPart s)
-            (s .king) (s .heard) (inPlaces (s .candidates .len) (candidates i)) (inPlaces (s .echoes .len) (echoes i)) (s .first-rounds);
+            (s .king) (s .heard) (inPlaces (s .candidates .len) (candidates i)) (inPlaces (s .echoes .len) (echoes i)) (s .since);
       }
