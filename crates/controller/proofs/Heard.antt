@@ -1,8 +1,8 @@
 -- A state that has heard a tray's senders: it is sound, and it takes the step that the state before takes.
---     heardState s n    the state s with the list n of those heard
+--     heardState s n    the state s with the list n of those heard, and without its record, which no step is lent
 use Prim.Native.Nat.{ℕ, _≤_, _<_}
 use mathlib.Core.Bool.{true, cond, _&&_, and-eq-true-iff}
-use mathlib.Core.List.{List}
+use mathlib.Core.List.{List, []}
 use mathlib.Core.Logic.{inl, inr}
 use mathlib.Core.Path.{_≡_, sym, ap, subst, _∙_}
 use borrow.Author.Tests.{le-leb, leb-true}
@@ -18,13 +18,16 @@ use Rattle.wire.specs.declared.frame.Numbers.{Numbers}
 use Rattle.controller.specs.Calls.{Promise}
 use Rattle.controller.specs.Laws.Received.{heard-in}
 use Rattle.controller.specs.Laws.Rules.{withHeard, heard-sound, next-already-heard}
-use Rattle.controller.specs.Laws.State.{Sound, rules-give, rules-stored, rules-test, view-stored}
+use Rattle.controller.specs.Laws.State.{Sound, rules-give, rules-heard, rules-stored, rules-test, sound-rules, view-stored}
+use Rattle.controller.specs.First.{roundsAfter}
+use Rattle.controller.specs.Laws.Work.Moved.{moved-recorded}
 use Rattle.controller.specs.Laws.Work.Step.{ready-found}
 use Rattle.controller.specs.Lists.{In}
 use Rattle.controller.specs.Received.{senders, receive}
 use Rattle.controller.specs.Refusals.{trayRefusal, sendersFit, heardFit, listsFit}
 use Rattle.controller.specs.Rules.{next}
-use Rattle.controller.specs.State.{view, storedState, sound, bitPart, stateFrom}
+use Rattle.controller.specs.State.{view, storedState, soundRules, bitPart, stateFrom}
+use Rattle.controller.specs.Work.First.{movedTo, Grown}
 use Rattle.controller.specs.Work.Received.{Hears, Ready}
 use Rattle.controller.specs.Work.Calls.{Checked}
 use Rattle.controller.specs.declared.state.Answer.{Answer}
@@ -33,21 +36,21 @@ use Rattle.controller.proofs.Promises.{senders-numbered, tests-left}
 
 abbrev pub heardState : State → Numbers → State
 heardState s n =
-    stateFrom (s .own) (s .round) (bitPart s) (s .king) n (s .candidates) (s .echoes)
+    stateFrom (s .own) (s .round) (bitPart s) (s .king) n (s .candidates) (s .echoes) []
 
-module _ (s : State) (es : List Entry) (n : Numbers) (h : sound s ≡ true) (e : n ≡ stored ((receive (view s) es) .heard)) where
-  more-image : heardState s n ≡ storedState (withHeard (view s) es)
+module _ (s : State) (es : List Entry) (n : Numbers) (h : soundRules s ≡ true) (e : n ≡ stored ((receive (view s) es) .heard)) where
+  more-image : heardState s n ≡ storedState (withHeard (view s) es) []
   more-image =
       let back = sym (rules-stored s h) in
-      λ i. stateFrom (s .own) (s .round) (bitPart s) (s .king) (e i) ((back i) .candidates) ((back i) .echoes)
+      λ i. stateFrom (s .own) (s .round) (bitPart s) (s .king) (e i) ((back i) .candidates) ((back i) .echoes) []
 
   more-view : view (heardState s n) ≡ withHeard (view s) es
-  more-view = ap view more-image ∙ view-stored _
+  more-view = ap view more-image ∙ view-stored _ []
 
   pub more-next : next (view (heardState s n)) es ≡ next (view s) es
   more-next = ap (λ v. next v es) more-view ∙ next-already-heard (view s) es (rules-give s h .heard .rises)
 
-  pub more-sound : (¬ In 0 (senders es)) → length ((receive (view s) es) .heard) ≤ maxNumbers → sound (heardState s n) ≡ true
+  pub more-sound : (¬ In 0 (senders es)) → length ((receive (view s) es) .heard) ≤ maxNumbers → soundRules (heardState s n) ≡ true
   more-sound z short =
       let v = rules-give s h in
       let all : Sound (withHeard (view s) es) =
@@ -67,7 +70,7 @@ module _ (s : State) (es : List Entry) (n : Numbers) (h : sound s ≡ true) (e :
         strong = v .strong;
         decision = v .decision;
       } in
-      ap sound more-image ∙ rules-test _ all
+      ap soundRules more-image ∙ rules-test _ [] all
 
 -- what `hear` answers, in the rules' words
 module _ {s : State} {b : List ℕ} {n : ℕ} (k : Checked s b n) {r : ℕ} {at f : List ℕ} (heard : Hears (s .own) b (listed (s .heard)) r at f) where
@@ -91,8 +94,8 @@ module _ {s : State} {b : List ℕ} {n : ℕ} (k : Checked s b n) {r : ℕ} {at 
     fits : heardFit (view s) (entries b) ≡ true
     fits = and-eq-true-iff (sendersFit (view s) (entries b)) (heardFit (view s) (entries b)) .0 (sym hearing-fits ∙ le-leb _ _ few) .1
 
-    hearing-sound : sound (heardState s all) ≡ true
-    hearing-sound = more-sound s (entries b) all (k .sound) list (senders-numbered s b sent) (leb-true _ _ fits)
+    hearing-sound : soundRules (heardState s all) ≡ true
+    hearing-sound = more-sound s (entries b) all (sound-rules s (k .sound)) list (senders-numbered s b sent) (leb-true _ _ fits)
 
     same : (receive (view s) (entries b)) .heard ≡ listed all
     same = sym (ap listed list ∙ listed-stored _)
@@ -104,11 +107,25 @@ module _ {s : State} {b : List ℕ} {n : ℕ} (k : Checked s b n) {r : ℕ} {at 
         (λ x i. subst (In x) same (heard-in (view s) (entries b) .1 (inl i)))
         (subst (λ (l : List ℕ). (j : ℕ) → j < length l → foundBy (getD f j 0) ≡ found b (getD l j 0)) same (heard .notes few))
 
+    -- those heard before are among them, and the record that is moved to beside them is the one that the tray gives
+    pub hearing-grown : Grown (s .heard) all
+    hearing-grown =
+        record {
+          fewer = rules-heard s (sound-rules s (k .sound));
+          more = rules-heard (heardState s all) hearing-sound;
+          inside = λ x i. subst (In x) same (heard-in (view s) (entries b) .1 (inr i));
+        }
+
+    pub hearing-recorded : {w : List ℕ} → w ≡ movedTo (listed (s .heard)) (listed all) (s .round) (s .since) → w ≡ roundsAfter s (entries b)
+    hearing-recorded e =
+        e ∙ ap (λ (m : List ℕ). movedTo (listed (s .heard)) m (s .round) (s .since)) (sym same)
+        ∙ moved-recorded s (entries b) (k .sound) (leb-true _ _ fits)
+
     pub hearing-passed : trayRefusal s b n ≡ cond (listsFit (view s) (entries b)) 0 8
     hearing-passed = tests-left k ∙ rw (sent, fits)
 
     -- what is promised of its step is promised of the tray
     pub hearing-promised : {before after : List ℕ} {a : Answer}
-        → Promise (cond (listsFit (view (heardState s all)) (entries b)) 0 8) (next (view (heardState s all)) (entries b)) (heardState s all) before a after
-        → Promise (trayRefusal s b n) (next (view s) (entries b)) (heardState s all) before a after
-    hearing-promised p = rw hearing-passed (rw (more-next s (entries b) all (k .sound) list) at p)
+        → Promise (cond (listsFit (view (heardState s all)) (entries b)) 0 8) (next (view (heardState s all)) (entries b)) [] (heardState s all) before a after
+        → Promise (trayRefusal s b n) (next (view s) (entries b)) [] (heardState s all) before a after
+    hearing-promised p = rw hearing-passed (rw (more-next s (entries b) all (sound-rules s (k .sound)) list) at p)

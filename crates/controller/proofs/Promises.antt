@@ -3,11 +3,12 @@
 --     promise-refused     a refusal returns the state that is kept, length 0, and leaves the buffer
 --     promise-left        a refusal in place leaves the fields, the lists' places and the buffer
 --     promise-sent        a call that is not refused returns the state that is made, and sends its frame
---     promise-worked      what is promised of a call that is not refused does not depend on the state that a refusal would keep
+--     promise-worked      what is promised of a call that is not refused and knows no record does not depend on the state that a refusal would keep,
+--                         and holds with the record beside it
 --     tests-left          of a tray that has passed tests 1 to 5, the tests that are left
 use Prim.Native.Nat.{ℕ}
 use mathlib.Core.Bool.{true, false, not, cond, and-eq-true-iff}
-use mathlib.Core.List.{List}
+use mathlib.Core.List.{List, []}
 use mathlib.Core.Path.{_≡_, sym, ap, _∙_}
 use borrow.Author.Tests.{not-true, lt-ltb, le-leb, eq-eqb}
 use lib.Dec.{eqb}
@@ -18,7 +19,7 @@ use Rattle.controller.specs.Lists.{In, mem}
 use Rattle.controller.specs.Received.{senders}
 use Rattle.controller.specs.Refusals.{trayRefusal, sendersFit, heardFit, listsFit}
 use Rattle.controller.specs.Laws.Lists.{mem-out}
-use Rattle.controller.specs.State.{View, view, storedState}
+use Rattle.controller.specs.State.{View, view, bitPart, stateFrom, storedState}
 use Rattle.controller.specs.Work.Calls.{Checked, Sends}
 use Rattle.controller.specs.Calls.{Promise}
 use Rattle.controller.specs.declared.state.State.{State}
@@ -39,11 +40,16 @@ pub promise-sent : (n : ℕ) (v : View) (p : List ℕ) (s t : State) (b : List �
     → Promise n v p s b (record { refusal = 0; state = t; length = l }) a
 promise-sent n v p s t b l a e made sent = record { number = sym e; state = rw e made; written = rw e (sent .written); output = rw e (sent .output) }
 
-pub promise-worked : (n : ℕ) (v : View) (p : List ℕ) (s t : State) (b : List ℕ) (r : Answer) (a : List ℕ) → r .refusal ≡ 0
-    → Promise n v p s b r a → Promise n v p t b r a
-promise-worked n v p s t b r a z h =
+-- a state with the places p for its record
+abbrev pub withRecord : List ℕ → State → State
+withRecord p s = stateFrom (s .own) (s .round) (bitPart s) (s .king) (s .heard) (s .candidates) (s .echoes) p
+
+pub promise-worked : (n : ℕ) (v : View) (p q : List ℕ) (s t : State) (b : List ℕ) (r : Answer) (a : List ℕ) → r .refusal ≡ 0 → p ≡ q
+    → Promise n v [] s b r a → Promise n v q t b (record { refusal = r .refusal; state = withRecord p (r .state); length = r .length }) a
+promise-worked n v p q s t b r a z e h =
     let none : n ≡ 0 = sym (h .number) ∙ z in
-    record { number = h .number; state = rw none (rw none at (h .state)); written = h .written; output = h .output }
+    let made : r .state ≡ storedState v [] = rw none at (h .state) in
+    record { number = h .number; state = rw none (ap (withRecord p) made ∙ ap (storedState v) e); written = h .written; output = h .output }
 
 pub senders-numbered : (s : State) (b : List ℕ) → sendersFit (view s) (entries b) ≡ true → ¬ In 0 (senders (entries b))
 senders-numbered s b h =

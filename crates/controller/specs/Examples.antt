@@ -1,12 +1,13 @@
 -- The two worked examples of document 01: the session that "The session printer" lists, and the last of the "Trials".
+--     worked s b           the state that a call makes of s with the tray b
 --     row v                a line of the printer: what a call that made the state v prints
---     listing v bs         the lines from the state v on, over the trays bs
---     refusals v bs        what these trays are refused under, 0 for none
+--     listing s bs         the lines from the state s on, over the trays bs
+--     refusals s bs        what these trays are refused under, 0 for none
 --     Session              what the paper says of the session
---     fromThree t p        what the faulty 3 sends to p in round t, as entries of p's tray; fromOthers p vs, what the others of vs send
+--     fromThree t p        what the faulty 3 sends to p in round t, as entries of p's tray; fromOthers p ss, what the others of ss send
 --     packed t es          the well packed tray of round t with the entries es
---     trayTo v vs          the tray of the one whose state is v: what 3 sends to it, then the frames of the others of vs, byte for byte
---     exchange vs          the states after each has taken its tray
+--     trayTo s ss          the tray of the one whose state is s: what 3 sends to it, then the frames of the others of ss, byte for byte
+--     exchange ss          the states after each has taken its tray
 --     LateJoiner a b c     what the paper says of the trial, where 5, 7 and 9 bring in the bits a, b, c
 use Prim.Native.Nat.{ℕ, zero, suc, _+_, _*_}
 use mathlib.Core.Bool.{cond, _&&_, _||_}
@@ -18,11 +19,19 @@ use Rattle.wire.specs.Limits.{maxFrame, trayHeader, entryWidth}
 use Rattle.wire.specs.Words.{halfBytes, wordBytes}
 use Rattle.wire.specs.Frame.{kindSaid, bitSaid}
 use Rattle.wire.specs.Tray.{Entry, entries}
-use Rattle.controller.specs.State.{View, storedState, startView}
+use Rattle.controller.specs.State.{View, view, firstRounds, storedState, startView, startRounds}
+use Rattle.controller.specs.First.{roundsAfter}
 use Rattle.controller.specs.Received.{frameOf}
 use Rattle.controller.specs.Rules.{next}
 use Rattle.controller.specs.Refusals.{startRefusal, trayRefusal}
 use Rattle.controller.specs.Calls.{sentBytes}
+use Rattle.controller.specs.declared.state.State.{State}
+
+abbrev pub started : ℕ → ℕ → State
+started number bit = storedState (startView number bit) startRounds
+
+abbrev pub worked : State → List ℕ → State
+worked s b = storedState (next (view s) (entries b)) (roundsAfter s (entries b))
 
 -- ---- "Number 7, bit 1 and five empty trays of rounds 1 to 5 give"
 
@@ -33,13 +42,13 @@ row v =
     sent .round ∷ kindSaid (sent .said) ∷ bitSaid (sent .said) ∷ length (sent .numbers)
     ∷ length (v .rotor .heard) ∷ length (v .rotor .candidates) ∷ v .rotor .king ∷ v .bit .decision ∷ []
 
-abbrev pub listing : View → List (List ℕ) → List (List ℕ)
-listing v [] = row v ∷ []
-listing v (b ∷ bs) = row v ∷ listing (next v (entries b)) bs
+abbrev pub listing : State → List (List ℕ) → List (List ℕ)
+listing s [] = row (view s) ∷ []
+listing s (b ∷ bs) = row (view s) ∷ listing (worked s b) bs
 
-abbrev pub refusals : View → List (List ℕ) → List ℕ
-refusals v [] = []
-refusals v (b ∷ bs) = trayRefusal (storedState v) b maxFrame ∷ refusals (next v (entries b)) bs
+abbrev pub refusals : State → List (List ℕ) → List ℕ
+refusals s [] = []
+refusals s (b ∷ bs) = trayRefusal s b maxFrame ∷ refusals (worked s b) bs
 
 abbrev pub emptyTrays : List (List ℕ)
 emptyTrays =
@@ -52,9 +61,9 @@ emptyTrays =
 
 pub record Session : Type 0 where
   pub start-accepted : startRefusal 7 1 maxFrame ≡ 0
-  pub trays-accepted : refusals (startView 7 1) emptyTrays ≡ replicate 5 0
+  pub trays-accepted : refusals (started 7 1) emptyTrays ≡ replicate 5 0
   pub printed :
-      listing (startView 7 1) emptyTrays
+      listing (started 7 1) emptyTrays
       ≡ (1 ∷ 1 ∷ 2 ∷ 0 ∷ 1 ∷ 0 ∷ 0 ∷ 2 ∷ [])
       ∷ (2 ∷ 2 ∷ 2 ∷ 1 ∷ 1 ∷ 0 ∷ 0 ∷ 2 ∷ [])
       ∷ (3 ∷ 3 ∷ 1 ∷ 0 ∷ 1 ∷ 1 ∷ 7 ∷ 2 ∷ [])
@@ -72,9 +81,9 @@ fromThree t p =
     (cond (eqb t 2 && eqb p 9) (record { sender = 3; bytes = 0 ∷ 0 ∷ 0 ∷ 2 ∷ 2 ∷ 2 ∷ 0 ∷ 1 ∷ 0 ∷ 0 ∷ 0 ∷ 3 ∷ [] } ∷ [])
     [])
 
-abbrev pub fromOthers : ℕ → List View → List Entry
+abbrev pub fromOthers : ℕ → List State → List Entry
 fromOthers p [] = []
-fromOthers p (v ∷ vs) = cond (eqb (v .own) p) (fromOthers p vs) (record { sender = v .own; bytes = sentBytes v } ∷ fromOthers p vs)
+fromOthers p (s ∷ ss) = cond (eqb (s .own) p) (fromOthers p ss) (record { sender = s .own; bytes = sentBytes (view s) } ∷ fromOthers p ss)
 
 -- the directory of the entries, the first of whose frames begins at `at`, and their frames
 abbrev pub directory : ℕ → List Entry → List ℕ
@@ -88,33 +97,33 @@ frames (e ∷ es) = e .bytes ++ frames es
 abbrev pub packed : ℕ → List Entry → List ℕ
 packed t es = wordBytes t ++ halfBytes (length es) ++ halfBytes 0 ++ directory (trayHeader + entryWidth * length es) es ++ frames es
 
-abbrev pub trayTo : View → List View → List ℕ
-trayTo v vs = packed (v .round) (fromThree (v .round) (v .own) ++ fromOthers (v .own) vs)
+abbrev pub trayTo : State → List State → List ℕ
+trayTo s ss = packed (s .round) (fromThree (s .round) (s .own) ++ fromOthers (s .own) ss)
 
-abbrev pub exchange : List View → List View
-exchange vs = map (λ (v : View). next v (entries (trayTo v vs))) vs
+abbrev pub exchange : List State → List State
+exchange ss = map (λ (s : State). worked s (trayTo s ss)) ss
 
 -- the states of round 1 + n, from those of round 1
-abbrev pub afterRounds : ℕ → List View → List View
-afterRounds zero vs = vs
-afterRounds (suc n) vs = afterRounds n (exchange vs)
+abbrev pub afterRounds : ℕ → List State → List State
+afterRounds zero ss = ss
+afterRounds (suc n) ss = afterRounds n (exchange ss)
 
 -- f of the states of n rounds, one after the other
-abbrev pub inRounds : {A : Type 0} → ℕ → (List View → A) → List View → List A
-inRounds zero f vs = []
-inRounds (suc n) f vs = f vs ∷ inRounds n f (exchange vs)
+abbrev pub inRounds : {A : Type 0} → ℕ → (List State → A) → List State → List A
+inRounds zero f ss = []
+inRounds (suc n) f ss = f ss ∷ inRounds n f (exchange ss)
 
-abbrev pub starts : ℕ → ℕ → ℕ → List View
-starts a b c = startView 5 a ∷ startView 7 b ∷ startView 9 c ∷ []
+abbrev pub starts : ℕ → ℕ → ℕ → List State
+starts a b c = started 5 a ∷ started 7 b ∷ started 9 c ∷ []
 
-abbrev pub trayRefusals : List View → List ℕ
-trayRefusals vs = map (λ (v : View). trayRefusal (storedState v) (trayTo v vs) maxFrame) vs
+abbrev pub trayRefusals : List State → List ℕ
+trayRefusals ss = map (λ (s : State). trayRefusal s (trayTo s ss) maxFrame) ss
 
-abbrev pub decisions : List View → List ℕ
-decisions vs = map (λ (v : View). v .bit .decision) vs
+abbrev pub decisions : List State → List ℕ
+decisions ss = map (λ (s : State). s .decision) ss
 
-abbrev pub kings : List View → List ℕ
-kings vs = map (λ (v : View). v .rotor .king) vs
+abbrev pub kings : List State → List ℕ
+kings ss = map (λ (s : State). s .king) ss
 
 pub record LateJoiner (a b c : ℕ) : Type 0 where
   -- no tray of rounds 1 to 14 is refused
@@ -122,8 +131,11 @@ pub record LateJoiner (a b c : ℕ) : Type 0 where
   -- "In phase 0, 9 names king 3; 5 and 7 name 5"
   pub phase-0 : kings (afterRounds 2 (starts a b c)) ≡ 5 ∷ 5 ∷ 3 ∷ []
   -- "In phase 1 all have 3, 5, 7, 9 and name 5"
-  pub phase-1-candidates : map (λ (v : View). v .rotor .candidates) (afterRounds 5 (starts a b c)) ≡ replicate 3 (3 ∷ 5 ∷ 7 ∷ 9 ∷ [])
+  pub phase-1-candidates : map (λ (s : State). (view s) .rotor .candidates) (afterRounds 5 (starts a b c)) ≡ replicate 3 (3 ∷ 5 ∷ 7 ∷ 9 ∷ [])
   pub phase-1 : kings (afterRounds 5 (starts a b c)) ≡ 5 ∷ 5 ∷ 5 ∷ []
   -- "all decide in round 15", none in the 14 rounds before: on the bit of 5, the first king whom all three name
   pub decided : inRounds 15 decisions (starts a b c) ≡ replicate 14 (2 ∷ 2 ∷ 2 ∷ []) ++ ((a ∷ a ∷ a ∷ []) ∷ [])
-  pub last-round : map (λ (v : View). v .round) (afterRounds 14 (starts a b c)) ≡ 15 ∷ 15 ∷ 15 ∷ []
+  pub last-round : map (λ (s : State). s .round) (afterRounds 14 (starts a b c)) ≡ 15 ∷ 15 ∷ 15 ∷ []
+  -- document 02, A8: beside 3, 5, 7 and 9 each has the round in which it first heard them; 9 heard 3 in round 2 only
+  pub first-heard :
+      map firstRounds (afterRounds 14 (starts a b c)) ≡ (1 ∷ 0 ∷ 1 ∷ 1 ∷ []) ∷ (1 ∷ 1 ∷ 0 ∷ 1 ∷ []) ∷ (2 ∷ 1 ∷ 1 ∷ 0 ∷ []) ∷ []

@@ -1,6 +1,7 @@
 -- Laws about the definitions, for the proofs of this crate and of the crates above it.
 pub mod Damage
 pub mod Examples
+pub mod First
 pub mod Lists
 pub mod Order
 pub mod Received

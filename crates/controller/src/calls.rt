@@ -8,7 +8,7 @@ ghost use Rattle.controller.specs.Fields.{wholeBefore, wholeGiven, state
 ghost use Rattle.controller.specs.State.{zeroState, storedState, startView, startRounds};
 ghost use Rattle.controller.specs.Calls.{StartPromise, TrayPromise, WorkPromise};
 ghost use Rattle.controller.specs.Work.Calls.{earlyRefusal, Checked, LastTest, HeardTray, SendsFields};
-use crate::first::record_rounds;
+use crate::first::take_over;
 use crate::lists::no_numbers;
 use crate::received::hear;
 use crate::received::senders_fit;
@@ -179,10 +179,7 @@ fn work_checked(
         more.heard = len;
         let worked = work_heard(more, &after, candidates, echoes, tray, &notes, out);
         if worked.refusal == 0 {
-            if fields.heard < len {
-                record_rounds(heard, fields.heard, &after, len, fields.round as u8, since);
-                *heard = after;
-            }
+            take_over(heard, fields.heard, &after, len, fields.round as u8, since);
             worked
         } else {
             refused_in_place(8, fields)

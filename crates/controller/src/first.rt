@@ -1,16 +1,13 @@
 // When each number was first heard: the record beside heard, which no rule of a step reads.
 ghost use mathlib.Core.Bool.{true, cond};
-ghost use mathlib.Core.List.{List, map, _++_};
 ghost use mathlib.Core.Path.{_≡_};
-ghost use Prim.Native.Nat.{ℕ, _≤_, _<_};
-ghost use lib.Dec.{eqb};
-ghost use lib.ListN.{length, take, drop};
+ghost use Prim.Native.Nat.{_≤_, _<_};
+ghost use lib.ListN.{length, take};
 ghost use Rattle.wire.specs.Lent.{before, after};
 ghost use Rattle.wire.specs.Limits.{maxNumbers};
-ghost use Rattle.wire.specs.Numbers.{listed};
 ghost use Rattle.controller.specs.Lists.{countIf};
 ghost use Rattle.controller.specs.State.{soundList};
-ghost use Rattle.controller.specs.Work.First.{isZero, timely, RoundsSound, movedTo};
+ghost use Rattle.controller.specs.Work.First.{isZero, timely, RoundsSound, movedTo, Grown};
 ghost use Rattle.controller.specs.Work.Lists.{inPlaces};
 use crate::lists::ABSENT;
 use crate::lists::find_near;
@@ -68,7 +65,7 @@ pub(crate) fn rounds_sound(since: &[u8; MAX_NUMBERS], len: usize, own: usize) ->
 }
 
 // Moves the record from beside the numbers `heard` to beside the numbers `all`, and gives each new number the tray's round.
-pub(crate) fn record_rounds(
+fn record_rounds(
     heard: &[u32; MAX_NUMBERS],
     len: usize,
     all: &[u32; MAX_NUMBERS],
@@ -77,19 +74,34 @@ pub(crate) fn record_rounds(
     since: &mut [u8; MAX_NUMBERS],
 )
     requires { ⌜ (soundList (inPlaces len (now heard)) ≡ true) × (count ≤ maxNumbers) ⌝ }
-    ensures { λ r. ⌜ after since ≡ movedTo (listed (inPlaces len (before heard))) (take count (before all)) round (before since) ⌝ }
+    ensures { λ r. ⌜ after since ≡ movedTo (take len (before heard)) (take count (before all)) round (before since) ⌝ }
 {
     let old = *since;
-    let mut next = 0;
+    // The making of a slice shows how many places an array has.
+    let numbers = &all[..];
+    let rounds = &mut since[..];
     let mut j = 0;
     while j < count {
-        let found = find_near(heard, len, all[j], next);
-        if found < ABSENT {
-            since[j] = old[found];
-            next = found + 1;
-        } else {
-            since[j] = round;
-        }
+        let found = find_near(heard, len, numbers[j], j);
+        rounds[j] = if found < ABSENT { old[found] } else { round };
         j += 1;
+    }
+}
+
+// Puts those heard with a tray in the place of those heard before it, with the record beside them. Where nobody is new there is nothing to do.
+pub(crate) fn take_over(
+    heard: &mut [u32; MAX_NUMBERS],
+    len: usize,
+    all: &[u32; MAX_NUMBERS],
+    count: usize,
+    round: u8,
+    since: &mut [u8; MAX_NUMBERS],
+)
+    requires { ⌜ Grown (inPlaces len (now heard)) (inPlaces count (now all)) × (length (now since) ≡ maxNumbers) ⌝ }
+    ensures { λ r. ⌜ (after heard ≡ before all) × (after since ≡ movedTo (take len (before heard)) (take count (before all)) round (before since)) ⌝ }
+{
+    if len < count {
+        record_rounds(heard, len, all, count, round, since);
+        *heard = *all;
     }
 }

@@ -85,14 +85,6 @@ pub(crate) fn has_at(at: &[u32; MAX_NUMBERS], len: usize, i: usize, x: u32) -> b
     (i < len) && (at[i] == x)
 }
 
-pub(crate) fn has(at: &[u32; MAX_NUMBERS], len: usize, x: u32) -> bool
-    requires { ⌜ soundList (inPlaces len (now at)) ≡ true ⌝ }
-    ensures { λ r. ⌜ r ≡ mem x (listed (inPlaces len (before at))) ⌝ }
-{
-    let i = place_in(at, len, x);
-    has_at(at, len, i, x)
-}
-
 // Puts `x` in at place `to`, what stands from there on, up to `len`, one place further.
 pub(crate) fn open_at(at: &mut [u32; MAX_NUMBERS], len: usize, to: usize, x: u32)
     requires { ⌜ (length (now at) ≡ maxNumbers) × (to ≤ len) × (len < maxNumbers) ⌝ }

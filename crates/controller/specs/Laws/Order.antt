@@ -13,6 +13,7 @@ use Rattle.wire.specs.Tray.{Entry, wellFormed, roundOf, entries}
 use Rattle.controller.specs.Lists.{In, Rising, mem, insertAll}
 use Rattle.controller.specs.State.{View, view, sound}
 use Rattle.controller.specs.Received.{frameOf, senders, readIn, receive}
+use Rattle.controller.specs.First.{firstsAfter, roundsAfter}
 use Rattle.controller.specs.Refusals.{trayRefusal}
 use Rattle.controller.specs.Calls.{Promise, TrayPromise}
 use Rattle.controller.specs.Laws.Lists.{true-or-false, in-or-not, in-mem, out-mem, rising-same, insert-all-in, insert-all-rising}
@@ -84,6 +85,10 @@ module _ (s : State) (b c : List ℕ) (packed : wellFormed b ≡ true) (packed�
   sound-order : sound s ≡ true → receive (view s) (entries b) ≡ receive (view s) (entries c)
   sound-order h = received-order order (view s) (sound-gives s h .heard .rises)
 
+  rounds-order : sound s ≡ true → roundsAfter s (entries b) ≡ roundsAfter s (entries c)
+  unfolding firstsAfter
+  rounds-order h = rw (sound-order h)
+
   pub refusal-order : (n : ℕ) → trayRefusal s b n ≡ trayRefusal s c n
   unfolding trayRefusal
   refusal-order n = elim (true-or-false (sound s)) [
@@ -94,7 +99,7 @@ module _ (s : State) (b c : List ℕ) (packed : wellFormed b ≡ true) (packed�
   -- whatever is promised of the one is promised of the other: they get the same answer
   pub promise-order : {given left : List ℕ} {r : Answer} → TrayPromise s b given r left → TrayPromise s c given r left
   promise-order {given} {left} {r} p = elim (true-or-false (sound s)) [
-    | inl h ↦ rw (refusal-order (length given), sound-order h) at p
+    | inl h ↦ rw (refusal-order (length given), sound-order h, rounds-order h) at p
     | inr h ↦
         let refused : trayRefusal s b (length given) ≡ 1 = unsound s b (length given) h in
         rw (unsound s c (length given) h) (keeps (rw refused at p))

@@ -7,14 +7,14 @@ use mathlib.Core.Path.{_≡_, refl, sym, ap, _∙_}
 use borrow.Author.Tests.{leb-true, eqb-true, eqb-false, not-true, le-leb, eq-eqb, ne-eqb}
 use native.Mathlib.Omega.{arith}
 use lib.Dec.{leb, eqb}
-use lib.ListN.{length, replicate, length-append, length-take, length-replicate}
+use lib.ListN.{length, take, replicate, length-append, length-take, length-replicate}
 use Rattle.wire.specs.Frame.{kindOf, bitFits, roundFits}
 use Rattle.wire.specs.Limits.{maxNumbers, lastRound}
 use Rattle.wire.specs.Numbers.{rising, stored, listed}
 use Rattle.wire.specs.Laws.Numbers.{listed-stored}
 use Rattle.wire.specs.declared.frame.Numbers.{Numbers}
 use Rattle.controller.specs.Lists.{In, mem, Rising}
-use Rattle.controller.specs.State.{View, view, storedState, startView, same, soundList, isEmpty, soundSaid, soundEmpty, soundRules, soundBeside, sound, bitPart, stateFrom}
+use Rattle.controller.specs.State.{View, view, storedState, startView, same, soundList, isEmpty, soundSaid, soundEmpty, soundRules, firstFits, alongside, recorded, soundBeside, sound, bitPart, stateFrom}
 use Rattle.controller.specs.Laws.Lists.{in-mem, mem-in, rising-gives, rising-test}
 use Rattle.controller.specs.declared.state.State.{State}
 
@@ -66,7 +66,7 @@ same-gives (x ∷ l) (y ∷ m) h =
     let tail = same-gives l m (both .1) in
     cc
 
-same-test : (l : List ℕ) → same l l ≡ true
+pub same-test : (l : List ℕ) → same l l ≡ true
 same-test [] = refl
 same-test (x ∷ l) = rw (eq-eqb x x refl) (same-test l)
 
@@ -171,6 +171,9 @@ tests-sound s t =
       t .decision,
     )
 
+recorded-length : (w : List ℕ) → length w ≤ maxNumbers → length (recorded w) ≡ maxNumbers
+recorded-length w h = omega (arith, length-append w (replicate (maxNumbers - length w) 0), length-replicate {A = ℕ} (maxNumbers - length w) 0)
+
 -- ---- soundness
 
 pub sound-rules : (s : State) → sound s ≡ true → soundRules s ≡ true
@@ -204,6 +207,15 @@ rules-give s h =
       strong = leb-true _ _ (t .strong);
       decision = leb-true _ _ (t .decision);
     }
+
+-- the record has its 64 places
+pub since-places : (s : State) → sound s ≡ true → length (s .since) ≡ maxNumbers
+unfolding soundBeside
+since-places s h =
+    let used = take (length (listed (s .heard))) (s .since) in
+    let both = and-eq-true-iff (alongside (firstFits (s .own)) (listed (s .heard)) used) (same (s .since) (recorded used)) .0 (sound-beside s h) in
+    let few = sound-list-gives (s .heard) (tests-give s (sound-rules s h) .heard) .list .short in
+    ap length (same-gives (s .since) (recorded used) (both .1)) ∙ recorded-length used (omega (arith, length-take (length (listed (s .heard))) (s .since)))
 
 pub sound-gives : (s : State) → sound s ≡ true → Sound (view s)
 sound-gives s h = rules-give s (sound-rules s h)
@@ -247,6 +259,11 @@ rules-test v p h =
       strong = le-leb _ _ (h .strong);
       decision = le-leb _ _ (h .decision);
     }
+
+-- a sound view, with a record that is sound beside those heard, is stored as a sound state
+pub sound-both : (v : View) (p : List ℕ) → Sound v → soundBeside (v .own) (v .rotor .heard) p ≡ true → sound (storedState v p) ≡ true
+unfolding sound
+sound-both v p h b = rw (rules-test v p h, listed-stored (v .rotor .heard)) b
 
 pub start-sound : (number bit : ℕ) → number ≢ 0 → bit ≤ 1 → Sound (startView number bit)
 unfolding kindOf bitFits

@@ -4,7 +4,7 @@ use Rattle.wire.specs.Frame.{kindOf, saidBy, bitFits, maxCount, lengthFits, rou
 use Rattle.wire.specs.Tray.{roundOf, entryCount, sender, wellFormed, part, entries}
 use Rattle.wire.specs.Trials.{All}
 use Rattle.controller.specs.Thirds.{third, twoThirds}
-use Rattle.controller.specs.State.{sound}
+use Rattle.controller.specs.State.{soundRules, soundBeside, sound}
 use Rattle.controller.specs.Received.{frameOf, receive}
 use Rattle.controller.specs.Rotation.{roster}
 use Rattle.controller.specs.Rules.{step}
@@ -18,7 +18,7 @@ a and b = (a, b)
 
 pub trials-hold : All Holds trials
 unfolding kindOf saidBy bitFits maxCount lengthFits roundFits headFits bodyFits readRefusal content roundOf entryCount sender
-    wellFormed part entries third twoThirds sound frameOf receive roster step trayRefusal
+    wellFormed part entries third twoThirds soundRules soundBeside sound frameOf receive roster step trayRefusal
 trials-hold =
     (refl, refl) and (refl, refl) and (refl, refl) and (refl, refl) and (refl, refl) and
     (refl, refl) and (refl, refl) and (refl, refl) and (refl, refl) and (refl, refl) and

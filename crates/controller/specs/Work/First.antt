@@ -3,6 +3,7 @@
 --     timely w             no round of w is past the last that can be worked
 --     RoundsSound n i w r  r says whether a record with the places w is sound beside any n rising numbers, where the one at place i is the own one
 --     movedTo l m t w      the places w of the record beside l, moved to beside m: a number that is not in l has the round t
+--     Grown n m            two lists in their stored form, of which the second has all that the first has
 use Prim.Native.Nat.{ℕ}
 use mathlib.Core.Bool.{Bool, true, cond, _&&_}
 use mathlib.Core.List.{List, [], _∷_, _++_, map}
@@ -10,8 +11,10 @@ use mathlib.Core.Path.{_≡_}
 use lib.Dec.{ltb, eqb}
 use lib.ListN.{length, getD, drop}
 use Rattle.wire.specs.Limits.{lastRound}
-use Rattle.controller.specs.Lists.{mem, Rising}
-use Rattle.controller.specs.State.{soundBeside}
+use Rattle.wire.specs.Numbers.{listed}
+use Rattle.wire.specs.declared.frame.Numbers.{Numbers}
+use Rattle.controller.specs.Lists.{mem, Inside, Rising}
+use Rattle.controller.specs.State.{soundList, soundBeside}
 use Rattle.controller.specs.Work.Lists.{below}
 
 abbrev pub isZero : ℕ → Bool
@@ -26,3 +29,8 @@ RoundsSound n i w r = (l : List ℕ) → length l ≡ n → Rising l → r ≡ s
 
 abbrev pub movedTo : List ℕ → List ℕ → ℕ → List ℕ → List ℕ
 movedTo l m t w = map (λ (x : ℕ). cond (mem x l) (getD w (below x l) 0) t) m ++ drop (length m) w
+
+pub record Grown (n m : Numbers) : Type 0 where
+  pub fewer : soundList n ≡ true
+  pub more : soundList m ≡ true
+  pub inside : Inside (listed n) (listed m)

@@ -7,7 +7,7 @@ use denote.Ref.{now}
 use lib.Dec.{leb, ltb}
 use Rattle.wire.specs.Limits.{maxFrame, lastRound}
 use Rattle.wire.specs.Tray.{wellFormed}
-use Rattle.controller.specs.Fields.{stateOf}
+use Rattle.controller.specs.Fields.{wholeOf}
 use Rattle.controller.specs.State.{sound}
 use Rattle.controller.specs.Work.Calls.{earlyRefusal}
 use Rattle.controller.specs.declared.state.State.{State}
@@ -21,7 +21,7 @@ given c = c .before .before .before
 abbrev state : tie.Else1 → State
 state c =
     let args = given c .args in
-    stateOf (args .fields) (now (args .heard)) (now (args .candidates)) (now (args .echoes))
+    wholeOf (args .fields) (now (args .heard)) (now (args .candidates)) (now (args .echoes)) (now (args .since))
 
 -- the place before each test, from the next one's
 abbrev first : tie.Else2 → tie.Else1

@@ -2,7 +2,8 @@
 use Prim.Native.Nat.{ℕ}
 use mathlib.Core.Path.{ap}
 use borrow.Author.Needs.{needs}
-use lib.ListN.{set}
+use lib.ListN.{set, replicate}
+use Rattle.wire.specs.Limits.{maxNumbers}
 use Rattle.controller.specs.declared.state.State.{State}
 use Rattle.wire.specs.declared.frame.Numbers.{Numbers}
 use Rattle.controller.proofs.calls.first_state.Statement.{statement}
@@ -21,6 +22,7 @@ withLists number bit n =
       heard = record { len = 1; at = set (n .at) 0 number };
       candidates = n;
       echoes = n;
+      since = replicate maxNumbers 0;
     }
 
 no-numbers-requires : tie.Need-no-numbers-requires

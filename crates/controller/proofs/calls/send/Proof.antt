@@ -14,7 +14,7 @@ use Rattle.controller.specs.Fields.{stateOf}
 use Rattle.controller.specs.Laws.Received.{frame-writable}
 use Rattle.controller.specs.Laws.State.{rules-give}
 use Rattle.controller.specs.Received.{frameOf}
-use Rattle.controller.specs.State.{view, sound}
+use Rattle.controller.specs.State.{view, soundRules}
 use Rattle.controller.specs.Work.Calls.{Sends}
 use Rattle.controller.specs.declared.state.State.{State}
 use Rattle.wire.specs.Frame.{Content, kindOf, saidBy, maxCount, writeRefusal, FrameWrites}
@@ -40,7 +40,7 @@ module _ (s : State) where
       pick true = refl
       pick false = refl
 
-  writes : sound s ≡ true → (b : List ℕ) → maxFrame ≤ length b → (w : Written) (a : List ℕ)
+  writes : soundRules s ≡ true → (b : List ℕ) → maxFrame ≤ length b → (w : Written) (a : List ℕ)
       → FrameWrites (frameOf (view s)) b w a → Sends (view s) b (w .length) a
   unfolding writeRefusal
   writes h b room w a f =

@@ -2,6 +2,7 @@
 -- is sound and its frame is sent.
 use Prim.Native.Nat.{ℕ, _≤_, _<_}
 use mathlib.Core.Bool.{Bool, true, false, not, cond, _&&_}
+use mathlib.Core.List.{[]}
 use mathlib.Core.Path.{_≡_, refl, ap, _∙_}
 use native.Mathlib.Omega.{arith}
 use borrow.Author.Needs.{needs}
@@ -11,11 +12,11 @@ use lib.ListN.{length}
 use Rattle.controller.specs.Laws.State.{view-stored, start-sound, rules-test}
 use Rattle.controller.specs.Refusals.{startRefusal}
 use Rattle.controller.specs.Fields.{stateOf}
-use Rattle.controller.specs.State.{view, storedState, sound, startView}
+use Rattle.controller.specs.State.{view, storedState, soundRules, startView}
 use Rattle.controller.specs.declared.state.Answer.{Answer}
 use Rattle.controller.specs.declared.state.State.{State}
 use Rattle.wire.specs.Limits.{maxFrame}
-use Rattle.controller.proofs.Promises.{promise-refused, promise-sent}
+use Rattle.controller.proofs.Promises.{withRecord, promise-refused, promise-sent}
 use Rattle.controller.proofs.calls.start.Statement.{statement}
 use Rattle.controller.proofs.calls.start.Tie as tie
 
@@ -70,7 +71,7 @@ returns : tie.Need-returns
 returns c =
     let at = c .before .before in
     let a = at .before .before .args in
-    promise-refused _ 9 _ _ _ _ (zero (a .number) (a .bit) _ (at .if1 .taken)) refl (c .refused .ensures ∙ ap (refusal 9) (c .before .zero-state .ensures))
+    promise-refused _ 9 _ _ _ _ _ (zero (a .number) (a .bit) _ (at .if1 .taken)) refl (c .refused .ensures ∙ ap (refusal 9) (c .before .zero-state .ensures))
 
 zero-state-requires-2 : tie.Need-zero-state-requires-2
 zero-state-requires-2 c κs = search needs
@@ -82,7 +83,7 @@ returns-2 : tie.Need-returns-2
 returns-2 c =
     let at = c .before .before in
     let a = at .before .before .before .args in
-    promise-refused _ 9 _ _ _ _ (over (a .number) (a .bit) _ (at .if2 .taken)) refl (c .refused2 .ensures ∙ ap (refusal 9) (c .before .zero-state2 .ensures))
+    promise-refused _ 9 _ _ _ _ _ (over (a .number) (a .bit) _ (at .if2 .taken)) refl (c .refused2 .ensures ∙ ap (refusal 9) (c .before .zero-state2 .ensures))
 
 zero-state-requires-3 : tie.Need-zero-state-requires-3
 zero-state-requires-3 c κs = search needs
@@ -94,7 +95,7 @@ returns-3 : tie.Need-returns-3
 returns-3 c =
     let at = c .before .before .before in
     let a = first at .args in
-    promise-refused _ 3 _ _ _ _ (tight (a .number) (a .bit) _ (at .before .if1 .left) (at .if2 .left) (c .before .before .if3 .taken)) refl
+    promise-refused _ 3 _ _ _ _ _ (tight (a .number) (a .bit) _ (at .before .if1 .left) (at .if2 .left) (c .before .before .if3 .taken)) refl
     (c .refused3 .ensures ∙ ap (refusal 3) (c .before .zero-state3 .ensures))
 
 first-state-requires : tie.Need-first-state-requires
@@ -109,13 +110,13 @@ state c =
     let s = c .before .before .first-state .result in
     stateOf (c .fields-of .result) (s .heard .at) (s .candidates .at) (s .echoes .at)
 
-whole : (c : tie.After-fields-of) → state c ≡ storedState (startView (given c .args .number) (given c .args .bit))
-whole c = c .fields-of .ensures ∙ c .before .before .first-state .ensures
+whole : (c : tie.After-fields-of) → state c ≡ storedState (startView (given c .args .number) (given c .args .bit)) []
+whole c = ap (withRecord []) (c .fields-of .ensures ∙ c .before .before .first-state .ensures)
 
-first-sound : (c : tie.After-fields-of) → sound (state c) ≡ true
+first-sound : (c : tie.After-fields-of) → soundRules (state c) ≡ true
 first-sound c =
     let passed = tested c in
-    ap sound (whole c) ∙ rules-test _ (start-sound _ _ (passed .before .before .if1 .left) (omega (arith, passed .before .if2 .left)))
+    ap soundRules (whole c) ∙ rules-test _ [] (start-sound _ _ (passed .before .before .if1 .left) (omega (arith, passed .before .if2 .left)))
 
 send-requires : tie.Need-send-requires
 send-requires c κs =
@@ -131,8 +132,8 @@ returns-4 c =
     let at = asked (sent c) .before in
     let passed = tested at in
     let s = at .before .before .first-state in
-    let shown : view (state at) ≡ startView (given at .args .number) (given at .args .bit) = ap view (whole at) ∙ view-stored _ in
-    promise-sent _ _ _ _ _ _ _ (fits _ _ _ (passed .before .before .if1 .left) (passed .before .if2 .left) (passed .if3 .left)) (s .ensures)
+    let shown : view (state at) ≡ startView (given at .args .number) (given at .args .bit) = ap view (whole at) ∙ view-stored _ [] in
+    promise-sent _ _ _ _ _ _ _ _ (fits _ _ _ (passed .before .before .if1 .left) (passed .before .if2 .left) (passed .if3 .left)) (s .ensures)
     (rw shown at (c .before .before .send .ensures _ _ (first-sound at)))
 
 pub start-spec : {M : Type 1} → statement M

@@ -14,7 +14,7 @@ of-parts b before r after e p = rw e at p
 
 -- what is asked of `work`
 abbrev asked : tie.After-work-arg4 → tie.After-work-arg
-asked c = c .before .before .before
+asked c = c .before .before .before .before
 
 fields-of-requires : tie.Need-fields-of-requires
 fields-of-requires c κs = search needs

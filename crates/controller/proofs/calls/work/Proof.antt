@@ -8,8 +8,8 @@ use Rattle.controller.proofs.calls.work.Statement.{statement}
 use Rattle.controller.proofs.calls.work.Tie as tie
 
 -- what is asked of `work_checked`
-abbrev asked : tie.After-work-checked-arg4 → tie.After-work-checked-arg
-asked c = c .before .before .before
+abbrev asked : tie.After-work-checked-arg5 → tie.After-work-checked-arg
+asked c = c .before .before .before .before
 
 early-refusal-requires : tie.Need-early-refusal-requires
 early-refusal-requires c κs = search needs
@@ -32,7 +32,7 @@ returns-2 : tie.Need-returns-2
 returns-2 c =
     let some = c .before in
     let early = some .before .early-refusal in
-    promise-left _ _ _ _ _ _ _ _ _ (early-refused _ _ _ (λ e. some .if1 .left (early .ensures ∙ e)) ∙ sym (early .ensures)) (ne-eqb _ 0 (some .if1 .left))
+    promise-left _ _ _ _ _ _ _ _ _ _ _ (early-refused _ _ _ (λ e. some .if1 .left (early .ensures ∙ e)) ∙ sym (early .ensures)) (ne-eqb _ 0 (some .if1 .left))
     (c .refused-in-place .ensures)
 
 pub work-spec : {M : Type 1} → statement M

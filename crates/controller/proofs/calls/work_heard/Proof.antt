@@ -1,7 +1,7 @@
 -- `controller::calls::work_heard` meets its contract: where the lists fit, the step keeps soundness and its frame is sent; else the refusal is 8.
 use Prim.Native.Nat.{ℕ, _≤_, _<_}
 use mathlib.Core.Bool.{Bool, true, false, cond, and-eq-true-iff}
-use mathlib.Core.List.{List}
+use mathlib.Core.List.{List, []}
 use mathlib.Core.Path.{_≡_, refl, sym, ap, _∙_}
 use native.Mathlib.Omega.{arith}
 use borrow.Author.Needs.{needs}
@@ -15,7 +15,7 @@ use Rattle.controller.specs.Laws.State.{view-stored, rules-give, rules-t
 use Rattle.controller.specs.Calls.{Promise}
 use Rattle.controller.specs.Refusals.{listsFit}
 use Rattle.controller.specs.Rules.{next}
-use Rattle.controller.specs.State.{view, storedState, sound}
+use Rattle.controller.specs.State.{view, storedState, soundRules}
 use Rattle.controller.specs.Work.Received.{Ready}
 use Rattle.controller.specs.Work.Step.{Makes}
 use Rattle.controller.specs.Work.Calls.{Sends}
@@ -39,12 +39,12 @@ stored-inside n l e = rw (e, length-append) (omega arith)
 module _ {s : State} {b f : List ℕ} (ready : Ready s b f) (early : s .round < lastRound)
     {t : Bool} (g : Fields) {h c e : List ℕ} (makes : Makes s b t (stateOf g h c e)) where
   -- the state that is made is sound
-  sound-made : listsFit (view s) (entries b) ≡ true → sound (storedState (next (view s) (entries b))) ≡ true
+  sound-made : listsFit (view s) (entries b) ≡ true → soundRules (storedState (next (view s) (entries b)) (s .since)) ≡ true
   sound-made fits =
       let es = entries b in
       let both = and-eq-true-iff (leb (length ((next (view s) es) .rotor .candidates)) maxNumbers)
       (leb (length ((next (view s) es) .rotor .echoes)) maxNumbers) .0 fits in
-      rules-test _ (next-sound (view s) es (rules-give s (ready .sound)) early (ready .numbered) (ready-short ready)
+      rules-test _ (s .since) (next-sound (view s) es (rules-give s (ready .sound)) early (ready .numbered) (ready-short ready)
       (leb-true _ _ (both .0)) (leb-true _ _ (both .1)))
 
   echoes-inside : t ≡ true → g .echoes ≤ length e
@@ -52,30 +52,30 @@ module _ {s : State} {b f : List ℕ} (ready : Ready s b f) (early : s .round < 
       stored-inside (record { len = g .echoes; at = e }) ((next (view s) (entries b)) .rotor .echoes)
       (ap (λ (u : State). u .echoes) (makes .made fits))
 
-  promised : {before after : List ℕ} {l : ℕ} → t ≡ true → ((i j : List ℕ) → sound (stateOf g i j e) ≡ true → Sends (view (stateOf g i j e)) before l after)
-      → Promise (cond (listsFit (view s) (entries b)) 0 8) (next (view s) (entries b)) s before
+  promised : {before after : List ℕ} {l : ℕ} → t ≡ true → ((i j : List ℕ) → soundRules (stateOf g i j e) ≡ true → Sends (view (stateOf g i j e)) before l after)
+      → Promise (cond (listsFit (view s) (entries b)) 0 8) (next (view s) (entries b)) (s .since) s before
       (record { refusal = 0; state = stateOf g h c e; length = l }) after
   promised {before} {after} {l} taken sends =
       let fits = sym (makes .fits) ∙ taken in
       let made = makes .made taken in
-      let shown : view (stateOf g h c e) ≡ next (view s) (entries b) = ap view made ∙ view-stored (next (view s) (entries b)) in
-      let sent = sends h c (ap sound made ∙ sound-made fits) in
-      promise-sent _ _ s (stateOf g h c e) before l after (rw fits) made (rw shown at sent)
+      let shown : view (stateOf g h c e) ≡ next (view s) (entries b) = ap view made ∙ view-stored (next (view s) (entries b)) (s .since) in
+      let sent = sends h c (ap soundRules made ∙ sound-made fits) in
+      promise-sent _ _ _ s (stateOf g h c e) before l after (rw fits) made (rw shown at sent)
 
   -- where the lists do not fit, places and fields are those that were
   refused : {before : List ℕ} (w : Worked) (d : Fields)
       → t ≡ false → (_≡_ {A = State} (stateOf d (s .heard .at) (s .candidates .at) (s .echoes .at)) s)
       → h ≡ s .heard .at → w ≡ record { refusal = 8; fields = d; length = 0 }
-      → Promise (cond (listsFit (view s) (entries b)) 0 8) (next (view s) (entries b)) s before (answerOf w h c e) before
+      → Promise (cond (listsFit (view s) (entries b)) 0 8) (next (view s) (entries b)) (s .since) s before (answerOf w h c e []) before
   refused {before} w d left whole heard a =
       let kept = makes .kept left in
       let candidates = ap (λ (u : State). u .candidates .at) kept in
       let echoes = ap (λ (u : State). u .echoes .at) kept in
-      let same : _≡_ {A = Answer} (answerOf w h c e) (record { refusal = 8; state = s; length = 0 }) =
-      ap (λ (u : Worked). answerOf u h c e) a
+      let same : _≡_ {A = Answer} (answerOf w h c e []) (record { refusal = 8; state = s; length = 0 }) =
+      ap (λ (u : Worked). answerOf u h c e []) a
       ∙ (λ i. record { refusal = 8; state = stateOf d (heard i) (candidates i) (echoes i); length = 0 })
       ∙ (λ i. record { refusal = 8; state = whole i; length = 0 }) in
-      promise-refused _ 8 _ s before (answerOf w h c e) (rw (sym (makes .fits) ∙ left)) refl same
+      promise-refused _ 8 _ _ s before (answerOf w h c e []) (rw (sym (makes .fits) ∙ left)) refl same
 
 -- what was lent; what is asked of `send`, and what it has sent
 abbrev lent : tie.After-step-arg → tie.Start

@@ -1,6 +1,8 @@
 -- `controller::calls::zero_state` meets its contract: the three lists are empty.
 use mathlib.Core.Path.{ap}
 use borrow.Author.Needs.{needs}
+use lib.ListN.{replicate}
+use Rattle.wire.specs.Limits.{maxNumbers}
 use Rattle.controller.specs.declared.state.State.{State}
 use Rattle.wire.specs.declared.frame.Numbers.{Numbers}
 use Rattle.controller.proofs.calls.zero_state.Statement.{statement}
@@ -19,6 +21,7 @@ withLists n =
       heard = n;
       candidates = n;
       echoes = n;
+      since = replicate maxNumbers 0;
     }
 
 no-numbers-requires : tie.Need-no-numbers-requires

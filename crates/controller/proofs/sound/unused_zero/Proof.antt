@@ -2,18 +2,17 @@
 use Prim.Native.Nat.{ℕ, suc, _+_, _-_, _≤_, _<_}
 use mathlib.Core.Bool.{Bool, _&&_, and-assoc, and-true}
 use mathlib.Core.List.{List, _∷_}
-use mathlib.Core.Path.{_≡_, sym, ap, _∙_}
+use mathlib.Core.Path.{_≡_, sym, _∙_}
 use native.Mathlib.Numerals.{add-one}
 use native.Mathlib.Omega.{arith}
 use borrow.Author.Needs.{needs}
 use denote.Ref.{now}
 use lib.Dec.{eqb}
-use lib.ListN.{length, getD, drop, replicate, take-append-drop, drop-of-length-le}
-use lib.Seq.{drop-cons, length-take-le}
+use lib.ListN.{length, getD, drop, replicate, drop-of-length-le}
+use lib.Seq.{drop-cons}
 use Rattle.wire.specs.Limits.{maxNumbers}
 use Rattle.wire.specs.Numbers.{stored, listed}
-use Rattle.wire.specs.declared.frame.Numbers.{Numbers}
-use Rattle.controller.specs.Laws.State.{same-append}
+use Rattle.controller.specs.Laws.Work.First.{recorded-is}
 use Rattle.controller.specs.State.{same}
 use Rattle.controller.proofs.sound.unused_zero.Statement.{statement}
 use Rattle.controller.proofs.sound.unused_zero.Tie as tie
@@ -29,12 +28,6 @@ Inv-loop at len ok₀ i₀ ok i =
 abbrev μ-loop : tie.MeasureT-loop
 μ-loop at len ok₀ i₀ ok i = maxNumbers - i
 
-first : (n : Numbers) → n .len ≤ length (n .at) → same (n .at) ((stored (listed n)) .at) ≡ zero-from (n .at) (n .len)
-first n h =
-    ap (λ (s : List ℕ). same s ((stored (listed n)) .at)) (sym (take-append-drop (n .len) (n .at)))
-    ∙ same-append (listed n) (drop (n .len) (n .at)) (replicate (maxNumbers - length (listed n)) 0)
-    ∙ ap (λ (k : ℕ). same (drop (n .len) (n .at)) (replicate (maxNumbers - k) 0)) (length-take-le (n .len) (n .at) h)
-
 module _ (ok : Bool) (s : List ℕ) (i : ℕ) (k : length s ≡ maxNumbers) where
   turn : i < maxNumbers → (ok && eqb (getD s i 0) 0 && zero-from s (i + 1)) ≡ (ok && zero-from s i)
   turn h =
@@ -49,9 +42,9 @@ module _ (ok : Bool) (s : List ℕ) (i : ℕ) (k : length s ≡ maxNumbers) wher
 
 loop-holds : tie.Need-loop-holds Inv-loop μ-loop
 loop-holds c =
-    let list : Numbers = record { len = c .args .len; at = now (c .args .at) } in
-    let k : length (list .at) ≡ maxNumbers = search needs in
-    (search needs, k, sym (first list (rw k (c .pre .0))))
+    let at = now (c .args .at) in
+    let k : length at ≡ maxNumbers = search needs in
+    (search needs, k, sym (recorded-is at (c .args .len) (rw k (c .pre .0))))
 
 mul-ok : tie.Need-mul-ok Inv-loop μ-loop
 mul-ok c = search needs

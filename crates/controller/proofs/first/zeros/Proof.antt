@@ -1,0 +1,85 @@
+-- `controller::first::zeros` meets its contract: after i turns the total is the count over the first i places.
+use Prim.Native.Nat.{ℕ, _+_, _-_, _≤_, _<_}
+use mathlib.Core.Bool.{cond}
+use mathlib.Core.List.{List}
+use mathlib.Core.Path.{_≡_, refl, _∙_}
+use native.Mathlib.Numerals.{add-one}
+use native.Mathlib.Omega.{arith}
+use borrow.Author.Needs.{needs}
+use denote.Ref.{now}
+use lib.ListN.{length, getD, take}
+use lib.Seq.{length-take-le, take-suc}
+use Rattle.controller.specs.Laws.Lists.{count-append, count-split}
+use Rattle.controller.specs.Lists.{countIf}
+use Rattle.controller.specs.Work.First.{isZero}
+use Rattle.controller.proofs.first.zeros.Statement.{statement}
+use Rattle.controller.proofs.first.zeros.Tie as tie
+
+abbrev Inv-loop : tie.InvT-loop
+Inv-loop rounds len zeros₀ i₀ zeros i = (i ≤ len) × (zeros ≡ countIf isZero (take i rounds))
+
+abbrev μ-loop : tie.MeasureT-loop
+μ-loop rounds len zeros₀ i₀ zeros i = len - i
+
+-- one turn: the place i, counted, is one of the first i + 1
+turn : (s : List ℕ) (i n one : ℕ) → i < length s → n ≡ countIf isZero (take i s) → one ≡ cond (isZero (getD s i 0)) 1 0
+    → n + one ≡ countIf isZero (take (i + 1) s)
+turn s i n one h sum more = rw (sum, more, add-one i, take-suc s i 0, count-append)
+
+-- of i places at most i are 0
+few : (s : List ℕ) (i : ℕ) → i ≤ length s → countIf isZero (take i s) ≤ i
+few s i h = omega (arith, count-split isZero (take i s), length-take-le i s h)
+
+-- what was given, and the total with the place of a turn
+abbrev given : tie.After-one-if-zero Inv-loop μ-loop → List ℕ
+given c = now (c .before .before .before .before .args .rounds)
+
+counted : (c : tie.After-one-if-zero Inv-loop μ-loop)
+    → let v = c .before .before .before .loop in
+    v .zeros + c .one-if-zero .result ≡ countIf isZero (take (v .i + 1) (given c))
+counted c =
+    let v = c .before .before .before .loop in
+    turn (given c) (v .i) (v .zeros) (c .one-if-zero .result) (search needs) (v .inv .1) (c .one-if-zero .ensures)
+
+loop-holds : tie.Need-loop-holds Inv-loop μ-loop
+loop-holds c = (search needs, refl)
+
+element-copy-out-one-if-zero : tie.Need-element-copy-out-one-if-zero Inv-loop μ-loop
+element-copy-out-one-if-zero c = search needs
+
+one-if-zero-requires : tie.Need-one-if-zero-requires Inv-loop μ-loop
+one-if-zero-requires c κs = search needs
+
+add-zeros : tie.Need-add-zeros Inv-loop μ-loop
+add-zeros c = let i = c .before .before .before .loop .i in omega (arith, counted c, few (given c) (i + 1) (search needs))
+
+add-i : tie.Need-add-i Inv-loop μ-loop
+add-i c = search needs
+
+loop-less : tie.Need-loop-less Inv-loop μ-loop
+loop-less c = search needs
+
+loop-again : tie.Need-loop-again Inv-loop μ-loop
+loop-again c = (search needs, counted c)
+
+returns : tie.Need-returns Inv-loop μ-loop
+returns c =
+    let v = c .before .loop in
+    let a = c .before .before .args in
+    let e : v .i ≡ a .len = omega arith in
+    v .inv .1 ∙ rw e
+
+pub zeros-spec : {M : Type 1} → statement M
+zeros-spec =
+    tie.close
+    (tie.spec
+    Inv-loop
+    μ-loop
+    loop-holds
+    element-copy-out-one-if-zero
+    one-if-zero-requires
+    add-zeros
+    add-i
+    loop-less
+    loop-again
+    returns)
