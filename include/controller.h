@@ -91,7 +91,8 @@ uint8_t controller_start(uint32_t number, uint8_t bit,
  * tray is passed over.
  *
  * Answers 0, or the first refusal that applies of: 1 (the image is not 1,024
- * bytes long or its state is not sound), 2, 3, 4, 5, 6, 7, 8.
+ * bytes long or its state is not sound), 2, 3, 4, 5, 6, 7, 8. An image from before
+ * first rounds were kept is refused under 1, unless the own number alone is heard.
  *
  * On 0, all 1,024 bytes of the image are those of the new state, the frame
  * stands in front of out, *length is its length, and out keeps every byte past
@@ -132,6 +133,16 @@ uint32_t controller_king(const uint8_t *image, size_t image_len);
 uint32_t controller_heard(const uint8_t *image, size_t image_len);
 uint32_t controller_candidates(const uint8_t *image, size_t image_len);
 uint32_t controller_echoes(const uint8_t *image, size_t image_len);
+
+/*
+ * Who joined when: the i-th heard number, from 0, in rising order, and the round of
+ * the tray that first brought it, 1 to 194, or 0 for the own number. Any entry under
+ * a number brings it, a void or an empty one too.
+ * 0 also where i is controller_heard's answer or more, and where controller_tray
+ * would refuse under 1.
+ */
+uint32_t controller_heard_number(const uint8_t *image, size_t image_len, uint32_t i);
+uint32_t controller_first_round(const uint8_t *image, size_t image_len, uint32_t i);
 
 #ifdef __cplusplus
 }

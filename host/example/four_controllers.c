@@ -1,8 +1,9 @@
 /*
- * Four controllers in one process: 5, 7 and 9 are correct; 3 is faulty and
- * equivocates, telling 5 one thing and 7 and 9 another. It prints what each one sent in
- * each round and how its state stands after. It ends 0 if the three agree on a
- * bit, 1 otherwise.
+ * Four controllers in one process: 5, 7 and 9 are correct; 3 is faulty. It joins late
+ * at 9, and it equivocates, telling 5 one thing and 7 and 9 another. The program prints
+ * what each one sent in each round and how its state stands after, then in which
+ * round each one first heard the others. It ends 0 if the three agree on a bit, 1
+ * otherwise.
  *
  * From the repository's root:
  *   cc -std=c99 -Wall -Wextra -Werror -pedantic -Iinclude \
@@ -17,7 +18,11 @@
 /* How many are correct, the faulty one's number, and by when all have decided. */
 enum { CORRECT = 3, FAULTY = 3, ALL = CORRECT + 1, ROUNDS = 3 + 3 * ALL };
 
-/* A tray here has one entry from each other one, each with at most one frame. */
+/* The place of 9 among the correct ones, and the round before which it hears nothing
+ * of the faulty one. */
+enum { LATE_AT = 2, JOINS = 4 };
+
+/* A tray here has at most one entry from each other one, with one frame. */
 enum { TRAY_ROOM = 8 + CORRECT * (8 + CONTROLLER_FRAME_LEN) };
 
 struct frame {
@@ -103,6 +108,23 @@ static void print(const struct controller *c, uint32_t number)
            controller_decision(c->image, sizeof c->image));
 }
 
+/* Who joined when, as one controller heard it. Its own number has the round 0. */
+static void print_joined(const struct controller *c)
+{
+    uint32_t heard = controller_heard(c->image, sizeof c->image);
+    uint32_t i;
+
+    for (i = 0; i < heard; i++) {
+        uint32_t number = controller_heard_number(c->image, sizeof c->image, i);
+        uint32_t round = controller_first_round(c->image, sizeof c->image, i);
+
+        if (round != 0) {
+            printf("%lu first heard %lu in round %lu\n", (unsigned long)c->sent.sender,
+                   (unsigned long)number, (unsigned long)round);
+        }
+    }
+}
+
 /* Carries the frames of one round to one controller, which makes the next. */
 static uint8_t carry(struct controller *c, const struct frame *sent, uint32_t round,
                      size_t receiver)
@@ -113,8 +135,10 @@ static uint8_t carry(struct controller *c, const struct frame *sent, uint32_t ro
     size_t count = 0;
     size_t i, length;
 
-    equivocate(&faulty, round, receiver);
-    frames[count++] = &faulty;
+    if (receiver != LATE_AT || round >= JOINS) {
+        equivocate(&faulty, round, receiver);
+        frames[count++] = &faulty;
+    }
     for (i = 0; i < CORRECT; i++) {
         if (i != receiver) {
             frames[count++] = &sent[i];
@@ -183,6 +207,9 @@ int main(void)
         if (step(controllers, round) != 0) {
             return 1;
         }
+    }
+    for (i = 0; i < CORRECT; i++) {
+        print_joined(&controllers[i]);
     }
     for (i = 0; i < CORRECT; i++) {
         decisions[i] = controller_decision(controllers[i].image, sizeof controllers[i].image);

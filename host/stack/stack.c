@@ -13,7 +13,7 @@
 
 #include "controller.h"
 
-enum { OTHERS = 63, LIST = 64, ROUNDS = 5, STACK = 1 << 20, MARK = 0xA5 };
+enum { CALLS = 11, OTHERS = 63, LIST = 64, ROUNDS = 5, STACK = 1 << 20, MARK = 0xA5 };
 
 static uint8_t image[CONTROLLER_IMAGE_LEN], out[CONTROLLER_FRAME_LEN], tray[CONTROLLER_TRAY_LEN];
 static uint8_t stack[STACK];
@@ -70,6 +70,10 @@ static void heard(void) { answer = controller_heard(image, sizeof image); }
 static void candidates(void) { answer = controller_candidates(image, sizeof image); }
 static void echoes(void) { answer = controller_echoes(image, sizeof image); }
 
+/* For the last of the 64 that are heard. */
+static void heard_number(void) { answer = controller_heard_number(image, sizeof image, OTHERS); }
+static void first_round(void) { answer = controller_first_round(image, sizeof image, OTHERS); }
+
 /* Runs the call on the marked stack; how many bytes of it were written. */
 static size_t depth(void (*call)(void))
 {
@@ -102,7 +106,7 @@ static size_t most_of_trays(void)
 
 int main(void)
 {
-    size_t bytes[9];
+    size_t bytes[CALLS];
     /* The second time, so that no call is the first to look a library's function
      * up, which would count. */
     for (int time = 0; time < 2; time++) {
@@ -115,10 +119,12 @@ int main(void)
         bytes[6] = depth(heard);
         bytes[7] = depth(candidates);
         bytes[8] = depth(echoes);
+        bytes[9] = depth(heard_number);
+        bytes[10] = depth(first_round);
     }
-    static const char *const names[] = {"start", "tray", "frame", "decision", "round",
-                                        "king", "heard", "candidates", "echoes"};
-    for (int i = 0; i < 9; i++)
+    static const char *const names[CALLS] = {"start", "tray", "frame", "decision", "round", "king", "heard",
+                                             "candidates", "echoes", "heard_number", "first_round"};
+    for (int i = 0; i < CALLS; i++)
         printf("controller_%s %zu\n", names[i], bytes[i]);
     return 0;
 }

@@ -1,10 +1,11 @@
 -- The two worked examples of document 01: the session that "The session printer" lists, and the last of the "Trials".
+--     started v            the state after a start that made v
 --     worked s b           the state that a call makes of s with the tray b
 --     row v                a line of the printer: what a call that made the state v prints
 --     listing s bs         the lines from the state s on, over the trays bs
 --     refusals s bs        what these trays are refused under, 0 for none
 --     Session              what the paper says of the session
---     fromThree t p        what the faulty 3 sends to p in round t, as entries of p's tray; fromOthers p ss, what the others of ss send
+--     fromThree t p        what the faulty 3 sends to p in round t, as entries of p's tray; fromOthers p vs, what the others of vs send
 --     packed t es          the well packed tray of round t with the entries es
 --     trayTo s ss          the tray of the one whose state is s: what 3 sends to it, then the frames of the others of ss, byte for byte
 --     exchange ss          the states after each has taken its tray
@@ -27,8 +28,8 @@ use Rattle.controller.specs.Refusals.{startRefusal, trayRefusal}
 use Rattle.controller.specs.Calls.{sentBytes}
 use Rattle.controller.specs.declared.state.State.{State}
 
-abbrev pub started : ℕ → ℕ → State
-started number bit = storedState (startView number bit) startRounds
+abbrev pub started : View → State
+started v = storedState v startRounds
 
 abbrev pub worked : State → List ℕ → State
 worked s b = storedState (next (view s) (entries b)) (roundsAfter s (entries b))
@@ -61,9 +62,9 @@ emptyTrays =
 
 pub record Session : Type 0 where
   pub start-accepted : startRefusal 7 1 maxFrame ≡ 0
-  pub trays-accepted : refusals (started 7 1) emptyTrays ≡ replicate 5 0
+  pub trays-accepted : refusals (started (startView 7 1)) emptyTrays ≡ replicate 5 0
   pub printed :
-      listing (started 7 1) emptyTrays
+      listing (started (startView 7 1)) emptyTrays
       ≡ (1 ∷ 1 ∷ 2 ∷ 0 ∷ 1 ∷ 0 ∷ 0 ∷ 2 ∷ [])
       ∷ (2 ∷ 2 ∷ 2 ∷ 1 ∷ 1 ∷ 0 ∷ 0 ∷ 2 ∷ [])
       ∷ (3 ∷ 3 ∷ 1 ∷ 0 ∷ 1 ∷ 1 ∷ 7 ∷ 2 ∷ [])
@@ -81,9 +82,9 @@ fromThree t p =
     (cond (eqb t 2 && eqb p 9) (record { sender = 3; bytes = 0 ∷ 0 ∷ 0 ∷ 2 ∷ 2 ∷ 2 ∷ 0 ∷ 1 ∷ 0 ∷ 0 ∷ 0 ∷ 3 ∷ [] } ∷ [])
     [])
 
-abbrev pub fromOthers : ℕ → List State → List Entry
+abbrev pub fromOthers : ℕ → List View → List Entry
 fromOthers p [] = []
-fromOthers p (s ∷ ss) = cond (eqb (s .own) p) (fromOthers p ss) (record { sender = s .own; bytes = sentBytes (view s) } ∷ fromOthers p ss)
+fromOthers p (v ∷ vs) = cond (eqb (v .own) p) (fromOthers p vs) (record { sender = v .own; bytes = sentBytes v } ∷ fromOthers p vs)
 
 -- the directory of the entries, the first of whose frames begins at `at`, and their frames
 abbrev pub directory : ℕ → List Entry → List ℕ
@@ -98,7 +99,7 @@ abbrev pub packed : ℕ → List Entry → List ℕ
 packed t es = wordBytes t ++ halfBytes (length es) ++ halfBytes 0 ++ directory (trayHeader + entryWidth * length es) es ++ frames es
 
 abbrev pub trayTo : State → List State → List ℕ
-trayTo s ss = packed (s .round) (fromThree (s .round) (s .own) ++ fromOthers (s .own) ss)
+trayTo s ss = packed (s .round) (fromThree (s .round) (s .own) ++ fromOthers (s .own) (map view ss))
 
 abbrev pub exchange : List State → List State
 exchange ss = map (λ (s : State). worked s (trayTo s ss)) ss
@@ -113,8 +114,11 @@ abbrev pub inRounds : {A : Type 0} → ℕ → (List State → A) → List State
 inRounds zero f ss = []
 inRounds (suc n) f ss = f ss ∷ inRounds n f (exchange ss)
 
-abbrev pub starts : ℕ → ℕ → ℕ → List State
-starts a b c = started 5 a ∷ started 7 b ∷ started 9 c ∷ []
+abbrev pub starts : ℕ → ℕ → ℕ → List View
+starts a b c = startView 5 a ∷ startView 7 b ∷ startView 9 c ∷ []
+
+abbrev pub begun : ℕ → ℕ → ℕ → List State
+begun a b c = map started (starts a b c)
 
 abbrev pub trayRefusals : List State → List ℕ
 trayRefusals ss = map (λ (s : State). trayRefusal s (trayTo s ss) maxFrame) ss
@@ -127,15 +131,15 @@ kings ss = map (λ (s : State). s .king) ss
 
 pub record LateJoiner (a b c : ℕ) : Type 0 where
   -- no tray of rounds 1 to 14 is refused
-  pub accepted : inRounds 14 trayRefusals (starts a b c) ≡ replicate 14 (0 ∷ 0 ∷ 0 ∷ [])
+  pub accepted : inRounds 14 trayRefusals (begun a b c) ≡ replicate 14 (0 ∷ 0 ∷ 0 ∷ [])
   -- "In phase 0, 9 names king 3; 5 and 7 name 5"
-  pub phase-0 : kings (afterRounds 2 (starts a b c)) ≡ 5 ∷ 5 ∷ 3 ∷ []
+  pub phase-0 : kings (afterRounds 2 (begun a b c)) ≡ 5 ∷ 5 ∷ 3 ∷ []
   -- "In phase 1 all have 3, 5, 7, 9 and name 5"
-  pub phase-1-candidates : map (λ (s : State). (view s) .rotor .candidates) (afterRounds 5 (starts a b c)) ≡ replicate 3 (3 ∷ 5 ∷ 7 ∷ 9 ∷ [])
-  pub phase-1 : kings (afterRounds 5 (starts a b c)) ≡ 5 ∷ 5 ∷ 5 ∷ []
+  pub phase-1-candidates : map (λ (s : State). (view s) .rotor .candidates) (afterRounds 5 (begun a b c)) ≡ replicate 3 (3 ∷ 5 ∷ 7 ∷ 9 ∷ [])
+  pub phase-1 : kings (afterRounds 5 (begun a b c)) ≡ 5 ∷ 5 ∷ 5 ∷ []
   -- "all decide in round 15", none in the 14 rounds before: on the bit of 5, the first king whom all three name
-  pub decided : inRounds 15 decisions (starts a b c) ≡ replicate 14 (2 ∷ 2 ∷ 2 ∷ []) ++ ((a ∷ a ∷ a ∷ []) ∷ [])
-  pub last-round : map (λ (s : State). s .round) (afterRounds 14 (starts a b c)) ≡ 15 ∷ 15 ∷ 15 ∷ []
+  pub decided : inRounds 15 decisions (begun a b c) ≡ replicate 14 (2 ∷ 2 ∷ 2 ∷ []) ++ ((a ∷ a ∷ a ∷ []) ∷ [])
+  pub last-round : map (λ (s : State). s .round) (afterRounds 14 (begun a b c)) ≡ 15 ∷ 15 ∷ 15 ∷ []
   -- document 02, A8: beside 3, 5, 7 and 9 each has the round in which it first heard them; 9 heard 3 in round 2 only
   pub first-heard :
-      map firstRounds (afterRounds 14 (starts a b c)) ≡ (1 ∷ 0 ∷ 1 ∷ 1 ∷ []) ∷ (1 ∷ 1 ∷ 0 ∷ 1 ∷ []) ∷ (2 ∷ 1 ∷ 1 ∷ 0 ∷ []) ∷ []
+      map firstRounds (afterRounds 14 (begun a b c)) ≡ (1 ∷ 0 ∷ 1 ∷ 1 ∷ []) ∷ (1 ∷ 1 ∷ 0 ∷ 1 ∷ []) ∷ (2 ∷ 1 ∷ 1 ∷ 0 ∷ []) ∷ []

@@ -1,6 +1,8 @@
 -- The run of demand 3 and what is claimed of it: that is what a reader must believe. The proof of the claim stands below `Proof`, its end is
--- `agreement` in Proof/Agreement; two runs stand below `Inhabitants`.
+-- `agreement` in Proof/Agreement; two runs stand below `Inhabitants`. `FirstHeard` is claimed of any controller's list of calls, and proved in
+-- Proof/FirstHeard.
 pub mod Run
 pub mod Outcome
+pub mod FirstHeard
 pub mod Proof
 pub mod Inhabitants

@@ -16,3 +16,5 @@ pub mod Protocol
 pub mod Calls
 pub mod RunSteps
 pub mod Agreement
+-- Of a list of calls by itself: that the record has the round of the first tray that brought a number.
+pub mod FirstHeard

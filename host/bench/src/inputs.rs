@@ -105,9 +105,11 @@ fn numbers(size: usize) -> Vec<u32> {
     (1..=size as u32).map(|i| 1_000_003 * i).collect()
 }
 
-/// The first one of a network, which has heard all.
+/// The first one of a network, which has heard all others since round 1.
 fn state(size: usize, round: u32) -> Fields {
     let all = numbers(size);
+    let mut first_rounds = vec![1; size];
+    first_rounds[0] = 0;
     Fields {
         number: all[0],
         round,
@@ -119,6 +121,7 @@ fn state(size: usize, round: u32) -> Fields {
         heard: all.clone(),
         candidates: all,
         echoes: Vec::new(),
+        first_rounds,
     }
 }
 
@@ -207,6 +210,7 @@ fn common_number(size: usize) -> Input {
 fn new_senders(size: usize) -> Input {
     let mut state = state(size, 5);
     state.heard.truncate(1);
+    state.first_rounds.truncate(1);
     state.echoes = own_numbers(size, 0);
     let others = numbers(size).into_iter().enumerate().skip(1).rev();
     let frames = others.map(|(place, n)| (n, frame(5, NONE, &own_numbers(size, place))));

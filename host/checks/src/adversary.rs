@@ -4,8 +4,9 @@
 //! For each receiver it counts what that one will get from the correct ones and
 //! adds just as much as brings a bit or a number to a third or two thirds of those
 //! heard, or leaves it one short. It equivocates: receivers on two sides are told
-//! two things, by a faulty king too. Faulty ones may join late, push a number late,
-//! omit frames, send void ones, or send two at once.
+//! two things, by a faulty king too. Faulty ones may join late, at some receivers later
+//! than at others or never, push a number late, omit frames, send void ones, or send two
+//! at once.
 
 use crate::fields::Fields;
 use crate::network::{Adversary, View};
@@ -86,21 +87,45 @@ enum Side {
     Divide,
 }
 
+/// How the faulty ones of a run come in.
+#[derive(Clone, Copy)]
+enum Joining {
+    FromStart,
+    /// With an init to some only.
+    Partial,
+    /// At a round of its own.
+    Late,
+    /// At a round of its own for each correct one, or never.
+    LateToSome,
+}
+
+/// A round in which no tray is worked.
+const NEVER: u32 = u32::MAX;
+
 /// A faulty controller's plan.
 struct Faulty {
     number: u32,
-    /// The round from which it sends at all.
-    joins: u32,
+    /// The round from which it sends at all, for each correct one.
+    joins: Vec<u32>,
     /// How many correct ones get its init.
     inits: usize,
 }
 
 impl Faulty {
+    fn joining(random: &mut Random, number: u32, members: &Members, joining: Joining) -> Faulty {
+        match joining {
+            Joining::FromStart => Faulty::from_start(number, members),
+            Joining::Partial => Faulty::partial(random, number, members),
+            Joining::Late => Faulty::late(random, number, members),
+            Joining::LateToSome => Faulty::late_to_some(random, number, members),
+        }
+    }
+
     /// One that sends to all from the start.
     fn from_start(number: u32, members: &Members) -> Faulty {
         Faulty {
             number,
-            joins: 1,
+            joins: vec![1; members.correct.len()],
             inits: members.correct.len(),
         }
     }
@@ -123,8 +148,21 @@ impl Faulty {
 
     /// One that omits its first frames.
     fn late(random: &mut Random, number: u32, members: &Members) -> Faulty {
+        let joins = some_round(random, members);
         Faulty {
-            joins: some_round(random, members),
+            joins: vec![joins; members.correct.len()],
+            ..Faulty::from_start(number, members)
+        }
+    }
+
+    /// One that omits its first frames to some, and all of them to others.
+    fn late_to_some(random: &mut Random, number: u32, members: &Members) -> Faulty {
+        let mut joins = |_| match random.below(3) {
+            0 => NEVER,
+            _ => some_round(random, members),
+        };
+        Faulty {
+            joins: members.correct.iter().map(&mut joins).collect(),
             ..Faulty::from_start(number, members)
         }
     }
@@ -147,14 +185,22 @@ pub struct Rushing {
 }
 
 impl Rushing {
+    /// All faulty ones come in in the same way, which the seed picks.
     pub fn new(seed: u64, members: &Members) -> Rushing {
+        use Joining::{FromStart, Late, Partial};
+        let ways = [Partial, Partial, Late, FromStart, FromStart, FromStart];
+        Rushing::joining(seed, members, &ways)
+    }
+
+    /// Faulty ones that are silent at first, at some receivers perhaps for good.
+    pub fn late(seed: u64, members: &Members) -> Rushing {
+        Rushing::joining(seed, members, &[Joining::Late, Joining::LateToSome])
+    }
+
+    fn joining(seed: u64, members: &Members, ways: &[Joining]) -> Rushing {
         let mut random = Random::new(seed);
-        let manner = random.below(6);
-        let planned = |&number: &u32| match manner {
-            0 | 1 => Faulty::partial(&mut random, number, members),
-            2 => Faulty::late(&mut random, number, members),
-            _ => Faulty::from_start(number, members),
-        };
+        let way = random.pick(ways);
+        let planned = |&number: &u32| Faulty::joining(&mut random, number, members, way);
         let faulty = members.faulty.iter().map(planned).collect();
         Rushing {
             faulty,
@@ -170,7 +216,7 @@ impl Rushing {
         let (random, omit) = (&mut self.random, self.rates.omit);
         let mut sends = |one: &&Faulty| {
             let reaches = kind_of(round) != INIT || receiver < one.inits;
-            one.joins <= round && reaches && !random.percent(omit)
+            one.joins[receiver] <= round && reaches && !random.percent(omit)
         };
         let present = self.faulty.iter().filter(&mut sends);
         present.map(|one| one.number).collect()

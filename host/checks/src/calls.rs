@@ -6,6 +6,16 @@ pub trait Calls {
     fn frame(bytes: &[u8], round: u32) -> u8;
     /// Decision, round, king, then the sizes of heard, candidates and echoes.
     fn answers(image: &[u8]) -> [u32; 6];
+    /// The heard number at a place, and the round of the tray that first brought it.
+    fn first_heard(image: &[u8], place: u32) -> (u32, u32);
+
+    /// Every heard number with its first round, as a host asks for them.
+    fn record(image: &[u8]) -> Vec<(u32, u32)> {
+        let [_, _, _, heard, ..] = Self::answers(image);
+        (0..heard)
+            .map(|place| Self::first_heard(image, place))
+            .collect()
+    }
 }
 
 /// The compiled engine, through its C calls.
@@ -38,6 +48,13 @@ macro_rules! calls_of {
                     $package::candidates(image),
                     $package::echoes(image),
                 ]
+            }
+
+            fn first_heard(image: &[u8], place: u32) -> (u32, u32) {
+                (
+                    $package::heard_number(image, place),
+                    $package::first_round(image, place),
+                )
             }
         }
     };

@@ -5,6 +5,7 @@ use crate::copies::{self, copies};
 use crate::edges::{self, edges};
 use crate::fields::{Fields, IMAGE_LEN};
 use crate::random::Random;
+use crate::records::{self, steps};
 use crate::{frames, states, trays};
 
 /// How many trays a case hands to one state, one after the other.
@@ -13,8 +14,9 @@ const WALK: usize = 4;
 /// How many answers there are: 0, for accepted, and the refusals up to 13.
 pub const ANSWERS: usize = 14;
 
-/// How often each answer was given, and how often accepted trays came to each edge of
-/// the rules and had each kind of copies.
+/// How often each answer was given, how often a record of first rounds was broken in each
+/// way, and how often accepted trays came to each edge of the rules, had each kind of
+/// copies and did each thing to the record.
 #[derive(Clone, Default)]
 pub struct Histogram {
     pub start: [u64; ANSWERS],
@@ -22,6 +24,8 @@ pub struct Histogram {
     pub frame: [u64; ANSWERS],
     pub edges: [u64; edges::NAMES.len()],
     pub copies: [u64; copies::NAMES.len()],
+    pub faults: [u64; records::FAULTS.len()],
+    pub steps: [u64; records::STEPS.len()],
 }
 
 impl Histogram {
@@ -36,6 +40,8 @@ impl Histogram {
         add_all(&mut self.frame, &other.frame);
         add_all(&mut self.edges, &other.edges);
         add_all(&mut self.copies, &other.copies);
+        add_all(&mut self.faults, &other.faults);
+        add_all(&mut self.steps, &other.steps);
     }
 }
 
@@ -69,13 +75,37 @@ pub fn case(seed: u64, counts: &mut Histogram) -> Result<(), String> {
     if lent.image.len() != IMAGE_LEN {
         return Ok(());
     }
-    if random.percent(7) {
-        states::damage(&mut random, &mut lent.image);
+    expect_sound(true, &lent.image, "a sound state")?;
+    match random.below(100) {
+        0..=6 => states::damage(&mut random, &mut lent.image),
+        7..=11 => break_record(&mut random, &mut lent.image, counts)?,
+        _ => (),
     }
     for _ in 0..WALK {
         tray(&mut random, &pool, &mut lent, counts)?;
     }
     Ok(())
+}
+
+/// Whether an image is sound as it was made to be: the engine shows its round.
+fn expect_sound(sound: bool, image: &[u8], what: &str) -> Result<(), String> {
+    match (Engine::answers(image)[1] != 0) == sound {
+        true => Ok(()),
+        false => Err(format!("{what}: engine takes it as sound: {}", !sound)),
+    }
+}
+
+/// An image whose record is broken is not sound.
+fn break_record(
+    random: &mut Random,
+    image: &mut [u8],
+    counts: &mut Histogram,
+) -> Result<(), String> {
+    let Some(fault) = records::damage(random, image) else {
+        return Ok(());
+    };
+    counts.faults[fault] += 1;
+    expect_sound(false, image, records::FAULTS[fault])
 }
 
 /// A frame, held against a round.
@@ -148,6 +178,8 @@ fn tray(
         add_all(&mut counts.edges, &came_to);
         let had = copies(&tray, state.round).map(u64::from);
         add_all(&mut counts.copies, &had);
+        let did = steps(&state, &tray).map(u64::from);
+        add_all(&mut counts.steps, &did);
     }
     Ok(())
 }
@@ -185,7 +217,24 @@ fn both(
     for (name, (answer, expected)) in names.iter().zip(answers.into_iter().zip(others)) {
         differ(name, answer, expected)?;
     }
+    differ_records(&lent.image, &other.image)?;
     Ok(answer)
+}
+
+/// Asks both for the numbers and rounds at the first places, at those around the end of
+/// heard and of the record, and at some that are far past both.
+fn differ_records(engine: &[u8], reference: &[u8]) -> Result<(), String> {
+    let [_, _, _, heard, ..] = Reference::answers(reference);
+    let last = heard.saturating_sub(1);
+    let far = [63, 64, 228, 256, 1 << 16, 1 << 30, u32::MAX];
+    for place in [0, 1, heard / 2, last, heard].into_iter().chain(far) {
+        let (number, round) = Engine::first_heard(engine, place);
+        let (expected, first) = Reference::first_heard(reference, place);
+        let at = |difference| format!("at place {place} {difference}");
+        differ("heard number", number, expected).map_err(at)?;
+        differ("first round", round, first).map_err(at)?;
+    }
+    Ok(())
 }
 
 fn differ<T: PartialEq + std::fmt::Display>(

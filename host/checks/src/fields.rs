@@ -4,7 +4,8 @@ pub const IMAGE_LEN: usize = 1024;
 pub const HEARD: usize = 16;
 pub const CANDIDATES: usize = 276;
 pub const ECHOES: usize = 536;
-pub const RESERVED: usize = 796;
+pub const FIRST_ROUNDS: usize = 796;
+pub const RESERVED: usize = 860;
 
 #[derive(Clone, Debug)]
 pub struct Fields {
@@ -18,6 +19,8 @@ pub struct Fields {
     pub heard: Vec<u32>,
     pub candidates: Vec<u32>,
     pub echoes: Vec<u32>,
+    /// One for each number of heard.
+    pub first_rounds: Vec<u8>,
 }
 
 impl Fields {
@@ -34,11 +37,13 @@ impl Fields {
         put_list(&mut image, HEARD, &self.heard);
         put_list(&mut image, CANDIDATES, &self.candidates);
         put_list(&mut image, ECHOES, &self.echoes);
+        image[FIRST_ROUNDS..][..self.heard.len()].copy_from_slice(&self.first_rounds);
         image
     }
 
     /// The fields of a sound image.
     pub fn of(image: &[u8]) -> Fields {
+        let heard = list(image, HEARD);
         Fields {
             number: get(image, 0),
             round: get(image, 4),
@@ -47,10 +52,17 @@ impl Fields {
             strong: image[10],
             king: get(image, 11),
             decision: image[15],
-            heard: list(image, HEARD),
             candidates: list(image, CANDIDATES),
             echoes: list(image, ECHOES),
+            first_rounds: image[FIRST_ROUNDS..][..heard.len()].to_vec(),
+            heard,
         }
+    }
+
+    /// Every heard number with its first round.
+    pub fn record(&self) -> Vec<(u32, u32)> {
+        let rounds = self.first_rounds.iter().map(|&round| u32::from(round));
+        self.heard.iter().copied().zip(rounds).collect()
     }
 
     pub fn undecided(&self) -> bool {

@@ -5,6 +5,7 @@
 //! `tests/networks.rs` runs whole networks with faulty controllers among them;
 //! `tests/programs.rs` compiles and runs the C programs and looks into the archive;
 //! `tests/format.rs` holds the bytes of docs/FORMAT.md to be true;
+//! `tests/image.rs` holds the calls, the table and the soundness of docs/IMAGE.md;
 //! `tests/session.rs` runs the session printer.
 //!
 //! - [`c`]: C programs, compiled and run;
@@ -18,6 +19,7 @@
 //! - [`page`]: tables and worked calls of the pages in docs/;
 //! - [`compare`]: one call on both, and the first difference;
 //! - [`edges`]: what an accepted tray did; [`copies`], what it had of copies;
+//! - [`records`]: damage to the record of first rounds, and what trays did to it;
 //! - [`network`], [`adversary`]: a whole network, and what its faulty ones send.
 
 #![forbid(unsafe_code)]
@@ -35,6 +37,7 @@ pub mod network;
 pub mod packing;
 pub mod page;
 pub mod random;
+pub mod records;
 pub mod states;
 pub mod trays;
 pub mod voids;

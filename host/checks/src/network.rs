@@ -4,13 +4,15 @@
 //! Each round, the adversary sees every correct frame and state before it sends.
 //! The trays that are handed over keep the guarantee of document 01's run, and the
 //! checks are that run's claims: agreement, a decision that is some correct one's
-//! input, the deadline, a decision that stays, and no refusal but under 3.
+//! input, the deadline, a decision that stays, and no refusal but under 3. After each
+//! round each state's record of first rounds is held against the trays handed over.
 
+use std::collections::BTreeMap;
 use std::marker::PhantomData;
 
 use crate::calls::Calls;
 use crate::fields::{Fields, IMAGE_LEN};
-use crate::packing::{numbers_in, pack, Entry};
+use crate::packing::{numbers_in, pack, unpack, Entry};
 use crate::random::Random;
 use crate::trays;
 
@@ -23,11 +25,33 @@ pub struct Correct {
     pub input: u8,
     pub image: Vec<u8>,
     pub sent: Vec<u8>,
+    /// For each number, the round of the first worked tray with an entry under it; 0 for
+    /// the own one. It is kept from the trays alone.
+    first_rounds: BTreeMap<u32, u32>,
 }
 
 impl Correct {
     pub fn fields(&self) -> Fields {
         Fields::of(&self.image)
+    }
+
+    /// Notes who has an entry in a tray that was worked.
+    fn worked(&mut self, tray: &[u8], round: u32) {
+        for entry in unpack(tray) {
+            self.first_rounds.entry(entry.sender).or_insert(round);
+        }
+    }
+
+    /// The state's record, as it was read or shown, is what the trays gave.
+    fn check_record(&self, record: &[(u32, u32)]) -> Result<(), String> {
+        let expected = self.first_rounds.iter().map(|(&n, &round)| (n, round));
+        match expected.eq(record.iter().copied()) {
+            true => Ok(()),
+            false => Err(format!(
+                "{}: first rounds {record:?}, but by the trays {:?}",
+                self.number, self.first_rounds
+            )),
+        }
     }
 }
 
@@ -54,6 +78,11 @@ pub struct Seen {
     pub last_join: u32,
     /// The last round after which correct ones held different bits.
     pub last_divided: u32,
+    /// How many numbers correct ones first heard after round 1, by their records at the
+    /// deadline, each counted for each of them.
+    pub heard_late: usize,
+    /// How many numbers some correct ones had heard by the deadline, and others not.
+    pub heard_by_some: usize,
 }
 
 pub struct Network<C> {
@@ -79,6 +108,7 @@ impl<C: Calls> Network<C> {
                     input,
                     image,
                     sent: out[..length].to_vec(),
+                    first_rounds: BTreeMap::from([(number, 0)]),
                 }),
                 refusal => Err(format!("start of {number} refused under {refusal}")),
             }
@@ -104,6 +134,7 @@ impl<C: Calls> Network<C> {
             self.step(adversary)?;
         }
         self.check_end()?;
+        self.check_shown()?;
         self.go_on()
     }
 
@@ -138,6 +169,22 @@ impl<C: Calls> Network<C> {
         if now.iter().any(|s| s.bit != now[0].bit) {
             self.seen.last_divided = self.round;
         }
+    }
+
+    /// The calls show the records. Also notes who was heard late, or not by all.
+    fn check_shown(&mut self) -> Result<(), String> {
+        let mut hearers: BTreeMap<u32, usize> = BTreeMap::new();
+        for correct in &self.correct {
+            let record = C::record(&correct.image);
+            correct.check_record(&record)?;
+            for (number, round) in record {
+                *hearers.entry(number).or_default() += 1;
+                self.seen.heard_late += usize::from(round > 1);
+            }
+        }
+        let all = self.correct.len();
+        self.seen.heard_by_some = hearers.values().filter(|&&hear| hear < all).count();
+        Ok(())
     }
 
     /// A tray that keeps the guarantee: every other correct one's frame as it was
@@ -215,6 +262,8 @@ impl<C: Calls> Network<C> {
         if now != round + 1 {
             return Err(format!("{number} made round {now} from {round}"));
         }
+        correct.worked(tray, round);
+        correct.check_record(&correct.fields().record())?;
         check_kept(number, before, decision)
     }
 
@@ -241,15 +290,18 @@ impl<C: Calls> Network<C> {
         }
     }
 
-    /// Past the deadline trays may be anything; decisions stay.
+    /// Past the deadline trays may be anything; decisions and first rounds stay.
     fn go_on(&mut self) -> Result<(), String> {
         let pool: Vec<u32> = (1..=100).collect();
         for correct in &mut self.correct {
             for _ in 0..9 {
                 let tray = trays::tray(&mut self.random, &pool, &correct.fields());
-                let before = C::answers(&correct.image)[0];
+                let [before, round, ..] = C::answers(&correct.image);
                 let mut out = [0; MAX_FRAME];
-                C::tray(&mut correct.image, &tray, &mut out, &mut 0);
+                if C::tray(&mut correct.image, &tray, &mut out, &mut 0) == 0 {
+                    correct.worked(&tray, round);
+                }
+                correct.check_record(&C::record(&correct.image))?;
                 check_kept(correct.number, before, C::answers(&correct.image)[0])?;
             }
         }

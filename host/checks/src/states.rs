@@ -49,6 +49,7 @@ pub fn sound(random: &mut Random, pool: &[u32]) -> Fields {
     let heard = heard(random, pool, number);
     let candidates = candidates(random, pool, round);
     let king = some_king(random, pool, number, &heard, &candidates);
+    let first_rounds = first_rounds(random, &heard, number, round);
     let size = random.pick(&[0, 1, 3, 10, 63, 64]);
     Fields {
         number,
@@ -65,6 +66,7 @@ pub fn sound(random: &mut Random, pool: &[u32]) -> Fields {
         } else {
             random.some(pool, size)
         },
+        first_rounds,
     }
 }
 
@@ -100,6 +102,20 @@ fn heard(random: &mut Random, pool: &[u32], number: u32) -> Vec<u32> {
     let place = heard.partition_point(|&n| n < number);
     heard.insert(place, number);
     heard
+}
+
+/// 0 for the own number, for others any round that a tray can have, whatever the state's:
+/// often the first one, one before the state's, or the last.
+fn first_rounds(random: &mut Random, heard: &[u32], number: u32, round: u32) -> Vec<u8> {
+    let before = (round as usize - 1).max(1);
+    let mut first = |&other: &u32| match random.below(6) {
+        _ if other == number => 0,
+        0 | 1 => 1,
+        2 | 3 => random.within(1, before) as u8,
+        4 => 194,
+        _ => random.within(1, 194) as u8,
+    };
+    heard.iter().map(&mut first).collect()
 }
 
 /// Candidates come often in a number near the next phase's, where the decision
@@ -146,7 +162,7 @@ pub fn damage(random: &mut Random, image: &mut Vec<u8>) {
         8 => move_round(random, image),
         9 => *image = random.bytes(IMAGE_LEN),
         10 => {
-            let length = random.pick(&[0, 1, 4, 796, 1023, 1025, 1028, 2048]);
+            let length = random.pick(&[0, 1, 4, 796, 860, 1023, 1025, 1028, 2048]);
             image.resize(length, 0);
         }
         _ => image.fill(random.pick(&[0, 255])),

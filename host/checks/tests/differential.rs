@@ -11,6 +11,8 @@ use checks::compare::{case, Histogram};
 use checks::copies;
 #[cfg(not(feature = "fault"))]
 use checks::edges::NAMES;
+#[cfg(not(feature = "fault"))]
+use checks::records;
 use std::thread;
 
 const THREADS: u64 = 2;
@@ -60,6 +62,14 @@ fn the_engine_and_the_reference_agree() {
     for (name, count) in copies::NAMES.iter().zip(counts.copies) {
         println!("{name}: {count}");
         assert!(count >= 10_000, "few trays: {name}");
+    }
+    for (name, count) in records::FAULTS.iter().zip(counts.faults) {
+        println!("{name}: {count}");
+        assert!(count >= 1000, "few images: {name}");
+    }
+    for (name, count) in records::STEPS.iter().zip(counts.steps) {
+        println!("{name}: {count}");
+        assert!(count >= 1000, "few trays: {name}");
     }
     assert!(counts.calls() >= 1_000_000);
     for answer in [0, 1, 3, 9] {

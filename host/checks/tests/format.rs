@@ -49,7 +49,7 @@ impl Host {
             Line::Frame(bytes) => self.sent(bytes),
             Line::State(text) => {
                 assert!(self.unsaid.remove("state"));
-                assert_eq!(&described(&Fields::of(&self.image)), text);
+                assert_eq!(&described::<C>(&self.image), text);
             }
             Line::Refused(refusal) => self.refused(*refusal),
             Line::ImageLen(length) => self.image_len = *length,
@@ -87,21 +87,26 @@ impl Host {
     }
 }
 
-/// A state as the page writes it.
-fn described(s: &Fields) -> String {
+/// A state as the page writes it; whom it heard when is what the calls show.
+fn described<C: Calls>(image: &[u8]) -> String {
+    let s = Fields::of(image);
+    let (heard, first_rounds): (Vec<u32>, Vec<u32>) = C::record(image).into_iter().unzip();
+    assert_eq!(heard, s.heard);
     let list = |numbers: &[u32]| match numbers {
         [] => "-".to_string(),
         _ => spaced(numbers),
     };
     format!(
-        "round {}, bit {}, said {}, strong {}, king {}, decision {}, heard {}, candidates {}, echoes {}",
+        "round {}, bit {}, said {}, strong {}, king {}, decision {}, heard {}, first rounds {}, \
+         candidates {}, echoes {}",
         s.round,
         s.bit,
         s.said,
         s.strong,
         s.king,
         s.decision,
-        list(&s.heard),
+        list(&heard),
+        list(&first_rounds),
         list(&s.candidates),
         list(&s.echoes)
     )
@@ -226,6 +231,7 @@ fn next(bytes: &[u8], round: u32, said: u8) -> Vec<u8> {
         heard: vec![5, 7],
         candidates: if round > 2 { vec![5, 7] } else { Vec::new() },
         echoes: if round > 1 { vec![7] } else { Vec::new() },
+        first_rounds: vec![1, 0],
     }
     .image();
     let entry = Entry {

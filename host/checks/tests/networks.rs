@@ -17,40 +17,55 @@ fn first_seed() -> u64 {
     }
 }
 
+/// Who sends for the faulty ones, by a seed.
+type MakeAdversary = fn(u64, &Members) -> Rushing;
+
 /// One run of a network; the seed fixes who is faulty and all that happens.
-fn run<C: Calls>(size: usize, faulty: usize, seed: u64) -> Result<Seen, String> {
+fn run<C: Calls>(
+    size: usize,
+    faulty: usize,
+    seed: u64,
+    make: MakeAdversary,
+) -> Result<Seen, String> {
     let mut random = Random::new(seed);
     let members = Members::of(&mut random, size, faulty);
-    let mut adversary = Rushing::new(random.word(), &members);
+    let mut adversary = make(random.word(), &members);
     let mut network = Network::<C>::start(&members.correct, members.faulty.len(), random.word())?;
     network.run(&mut adversary)?;
     Ok(network.seen)
 }
 
 /// Runs with as many faulty ones as may be and with fewer, for some sizes, each with
-/// a seed of its own. Also makes sure that the adversary did bring something about.
-fn run_sizes(sizes: RangeInclusive<usize>, runs: u64) {
+/// a seed of its own.
+fn run_all(sizes: RangeInclusive<usize>, runs: u64, make: MakeAdversary) -> Vec<Seen> {
     let mut all = Vec::new();
     let mut seed = first_seed();
-    println!("sizes {sizes:?}, {runs} runs each, seeds from {seed} on");
-    for size in sizes.clone() {
+    let last = seed + sizes.clone().count() as u64 * runs - 1;
+    println!("sizes {sizes:?}, {runs} runs each, seeds {seed} to {last}");
+    for size in sizes {
         let most = (size - 1) / 3;
         for _ in 0..runs {
             let faulty = if seed % 4 == 0 { most / 2 } else { most };
-            let seen = run::<Engine>(size, faulty, seed)
+            let seen = run::<Engine>(size, faulty, seed, make)
                 .unwrap_or_else(|e| panic!("{size} with {faulty} faulty, seed {seed}: {e}"));
             all.push(seen);
             seed += 1;
         }
     }
+    all
+}
+
+/// Runs against faulty ones of all kinds. Also makes sure that they did bring something
+/// about.
+fn run_sizes(sizes: RangeInclusive<usize>, runs: u64) {
+    let all = run_all(sizes.clone(), runs, Rushing::new);
     let kings = all.iter().filter(|seen| seen.kings_differed).count();
     let late = all.iter().filter(|seen| seen.last_join > 3).count();
     let divided = all.iter().filter(|seen| seen.last_divided >= 9).count();
     println!(
-        "sizes {sizes:?}, {} runs, last seed {}: kings differed in {kings}, a candidate joined late in {late}, \
+        "sizes {sizes:?}, {} runs: kings differed in {kings}, a candidate joined late in {late}, \
          bits differed past phase 1 in {divided}",
-        all.len(),
-        seed - 1
+        all.len()
     );
     assert!(kings > 0 && late > 0 && divided > 0);
 }
@@ -70,9 +85,29 @@ fn large_networks_agree() {
     run_sizes(32..=64, 2);
 }
 
+/// Faulty ones that are silent at first, at all or at some of the others for good. The
+/// runs hold the records against the trays; here it is made sure that there was something
+/// to record.
+#[test]
+fn late_ones_are_recorded() {
+    for (sizes, runs) in [(4..=10, 200), (11..=31, 12), (32..=64, 2)] {
+        let all = run_all(sizes.clone(), runs, Rushing::late);
+        let late: Vec<usize> = all.iter().map(|seen| seen.heard_late).collect();
+        let by_some: usize = all.iter().map(|seen| seen.heard_by_some).sum();
+        let lines = late.iter().filter(|&&late| late > 0).count();
+        let late: usize = late.iter().sum();
+        println!(
+            "sizes {sizes:?}, {} runs: {late} late rounds recorded, in {lines} runs; \
+             {by_some} numbers heard by some and not by others",
+            all.len()
+        );
+        assert!(late > 0 && lines > all.len() / 2 && by_some > 0);
+    }
+}
+
 /// The first seed whose run breaks a claim, and how.
 fn broken<C: Calls>(size: usize, faulty: usize, claim: &str) -> Option<(u64, String)> {
-    let runs = (1..5000).map(|seed| (seed, run::<C>(size, faulty, seed)));
+    let runs = (1..5000).map(|seed| (seed, run::<C>(size, faulty, seed, Rushing::new)));
     runs.filter_map(|(seed, end)| Some((seed, end.err()?)))
         .find(|(_, broken)| broken.starts_with(claim))
 }
@@ -142,4 +177,35 @@ fn the_last_trial() {
         assert!(states.iter().all(|s| s.decision == states[0].decision));
         assert!(states.iter().all(|s| !s.undecided()));
     }
+}
+
+/// Silent at first: 5 hears it from round 6 on, 7 an empty entry in round 8, 9 nothing.
+struct LateThree;
+
+impl Adversary for LateThree {
+    fn entries(&mut self, view: &View, receiver: usize) -> Vec<Entry> {
+        let round = view.round;
+        let bytes = match view.correct[receiver].number {
+            5 if round >= 6 => frame(round, 1, &[]),
+            7 if round == 8 => Vec::new(),
+            _ => return Vec::new(),
+        };
+        vec![Entry { sender: 3, bytes }]
+    }
+}
+
+#[test]
+fn each_records_when_it_heard_a_late_one() {
+    let correct = [(5, 0), (7, 1), (9, 1)];
+    let mut network = Network::<Engine>::start(&correct, 1, 1).expect("a start");
+    while network.correct[0].fields().round < 15 {
+        network.step(&mut LateThree).expect("an accepted round");
+    }
+    let recorded = network.correct.iter().map(|p| Engine::record(&p.image));
+    let expected = [
+        vec![(3, 6), (5, 0), (7, 1), (9, 1)],
+        vec![(3, 8), (5, 1), (7, 0), (9, 1)],
+        vec![(5, 1), (7, 1), (9, 0)],
+    ];
+    assert!(recorded.eq(expected));
 }

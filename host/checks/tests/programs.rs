@@ -35,7 +35,7 @@ fn a_call_takes_as_much_stack_as_the_page_says() {
     let ran = c::run("host/stack/stack.c", FOLDER);
     let rows = page::rows(&page::text("IMAGE.md"), "## Compile and link");
     let printed = String::from_utf8_lossy(&ran.stdout);
-    assert_eq!(printed.lines().count(), 9, "a line for each call");
+    assert_eq!(printed.lines().count(), 11, "a line for each call");
     for line in printed.lines() {
         println!("stack: {line}");
         let (name, bytes) = line.split_once(' ').expect("a name and bytes");

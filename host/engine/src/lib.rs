@@ -31,6 +31,8 @@ mod c {
         pub fn controller_round(image: *const u8, image_len: usize) -> u32;
         pub fn controller_king(image: *const u8, image_len: usize) -> u32;
         pub fn controller_heard(image: *const u8, image_len: usize) -> u32;
+        pub fn controller_heard_number(image: *const u8, image_len: usize, i: u32) -> u32;
+        pub fn controller_first_round(image: *const u8, image_len: usize, i: u32) -> u32;
         pub fn controller_candidates(image: *const u8, image_len: usize) -> u32;
         pub fn controller_echoes(image: *const u8, image_len: usize) -> u32;
     }
@@ -96,6 +98,20 @@ pub fn king(image: &[u8]) -> u32 {
 pub fn heard(image: &[u8]) -> u32 {
     // SAFETY: pointer and length are those of a slice, which is only read.
     unsafe { c::controller_heard(image.as_ptr(), image.len()) }
+}
+
+/// The i-th heard number, from 0, in rising order; 0 past the end and for an image that
+/// is not sound.
+pub fn heard_number(image: &[u8], i: u32) -> u32 {
+    // SAFETY: pointer and length are those of a slice, which is only read.
+    unsafe { c::controller_heard_number(image.as_ptr(), image.len(), i) }
+}
+
+/// The round of the tray that first brought the i-th heard number; 0 for the own one,
+/// past the end and for an image that is not sound.
+pub fn first_round(image: &[u8], i: u32) -> u32 {
+    // SAFETY: pointer and length are those of a slice, which is only read.
+    unsafe { c::controller_first_round(image.as_ptr(), image.len(), i) }
 }
 
 /// How many candidates there are; 0 for an image that is not sound.

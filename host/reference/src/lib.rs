@@ -74,6 +74,18 @@ pub fn heard(image: &[u8]) -> u32 {
     sound_state(image).map_or(0, |state| state.heard.len() as u32)
 }
 
+/// The i-th heard number, from 0, in rising order; 0 past the end and for an image that
+/// is not sound.
+pub fn heard_number(image: &[u8], i: u32) -> u32 {
+    sound_state(image).map_or(0, |state| at(state.heard.as_slice(), i))
+}
+
+/// The round of the tray that first brought the i-th heard number; 0 for the own one,
+/// past the end and for an image that is not sound.
+pub fn first_round(image: &[u8], i: u32) -> u32 {
+    sound_state(image).map_or(0, |state| u32::from(at(&state.first_rounds, i)))
+}
+
 /// How many candidates there are; 0 for an image that is not sound.
 pub fn candidates(image: &[u8]) -> u32 {
     sound_state(image).map_or(0, |state| state.candidates.len() as u32)
@@ -93,6 +105,11 @@ fn sound_state(image: &[u8]) -> Option<State> {
     let mut state = State::blank();
     state.load(image)?;
     Some(state)
+}
+
+/// What stands at a place, 0 past the end.
+fn at<T: Copy + Default>(places: &[T], i: u32) -> T {
+    places.get(i as usize).copied().unwrap_or_default()
 }
 
 fn answer(result: Result<usize, Refusal>, length: &mut usize) -> u8 {
@@ -131,7 +148,7 @@ fn try_tray(image: &mut [u8], tray: &[u8], out: &mut [u8]) -> Result<usize, Refu
     }
     let mut received = tray::Received::empty();
     directory
-        .hear(&mut state.heard, &mut received)
+        .hear(&mut state, &mut received)
         .ok_or(Refusal::TooManyHeard)?;
     step::make_next_round(&mut state, &received)?;
     let image = image.try_into().map_err(|_| Refusal::StateNotSound)?;

@@ -1,6 +1,6 @@
 //! A controller's state, its image of 1,024 bytes, and when it is sound.
 
-use crate::frame::{Kind, LAST_ROUND, NONE};
+use crate::frame::{Kind, LAST_ROUND, MAX_NUMBERS, NONE};
 use crate::list::{is_zero, List, LIST_LEN};
 
 /// The length of a state's image.
@@ -9,7 +9,8 @@ pub const IMAGE_LEN: usize = 1024;
 const HEARD: usize = 16;
 const CANDIDATES: usize = HEARD + LIST_LEN;
 const ECHOES: usize = CANDIDATES + LIST_LEN;
-const RESERVED: usize = ECHOES + LIST_LEN;
+const FIRST_ROUNDS: usize = ECHOES + LIST_LEN;
+const RESERVED: usize = FIRST_ROUNDS + MAX_NUMBERS;
 
 #[derive(Clone, Debug)]
 pub struct State {
@@ -28,6 +29,9 @@ pub struct State {
     pub heard: List,
     pub candidates: List,
     pub echoes: List,
+    /// For each place of heard, the round of the tray that first brought its number;
+    /// 0 for the own number and in unused places.
+    pub first_rounds: [u8; MAX_NUMBERS],
 }
 
 impl State {
@@ -44,6 +48,7 @@ impl State {
             heard: List::empty(),
             candidates: List::empty(),
             echoes: List::empty(),
+            first_rounds: [0; MAX_NUMBERS],
         }
     }
 
@@ -73,6 +78,15 @@ impl State {
         }
     }
 
+    /// Makes a number heard that the tray of the state's round is the first to bring, at
+    /// the place that `find` gave. Heard is not full, and the round is not the last.
+    pub fn hear(&mut self, place: usize, number: u32) {
+        let used = place..self.heard.len();
+        self.first_rounds.copy_within(used, place + 1);
+        self.first_rounds[place] = self.round as u8;
+        self.heard.insert(place, number);
+    }
+
     /// Reads an image into this blank state; nothing if it is not sound. The lists
     /// are read where they stay, since copies of them would cost most of a call.
     pub fn load(&mut self, image: &[u8]) -> Option<()> {
@@ -89,7 +103,9 @@ impl State {
         self.decision = image[15];
         self.heard.load(&image[HEARD..CANDIDATES])?;
         self.candidates.load(&image[CANDIDATES..ECHOES])?;
-        self.echoes.load(&image[ECHOES..RESERVED])?;
+        self.echoes.load(&image[ECHOES..FIRST_ROUNDS])?;
+        self.first_rounds
+            .copy_from_slice(&image[FIRST_ROUNDS..RESERVED]);
         self.is_sound().then_some(())
     }
 
@@ -106,7 +122,15 @@ impl State {
             && (self.round > 2 || self.candidates.is_empty())
             && (self.round > 1 || self.echoes.is_empty())
             // A list has no 0, so this also says that the own number is not 0.
-            && self.heard.find(self.number).is_ok()
+            && self.heard.find(self.number).is_ok_and(|own| self.has_sound_record(own))
+    }
+
+    /// Whether the first rounds are 0 for the own number, which stands at a place of
+    /// heard, 1 to 194 for all others, and 0 in unused places.
+    fn has_sound_record(&self, own: usize) -> bool {
+        let (used, unused) = self.first_rounds.split_at(self.heard.len());
+        let (before, after) = (&used[..own], &used[own + 1..]);
+        used[own] == 0 && are_tray_rounds(before) && are_tray_rounds(after) && is_zero(unused)
     }
 
     pub fn write(&self, image: &mut [u8; IMAGE_LEN]) {
@@ -119,9 +143,18 @@ impl State {
         image[15] = self.decision;
         self.heard.write(&mut image[HEARD..CANDIDATES]);
         self.candidates.write(&mut image[CANDIDATES..ECHOES]);
-        self.echoes.write(&mut image[ECHOES..RESERVED]);
+        self.echoes.write(&mut image[ECHOES..FIRST_ROUNDS]);
+        image[FIRST_ROUNDS..RESERVED].copy_from_slice(&self.first_rounds);
         image[RESERVED..].fill(0);
     }
+}
+
+/// Whether trays of all these rounds can be worked, without an early way out.
+fn are_tray_rounds(rounds: &[u8]) -> bool {
+    let worked = 1..LAST_ROUND as u8;
+    rounds
+        .iter()
+        .fold(true, |all, round| all & worked.contains(round))
 }
 
 fn number_at(image: &[u8; IMAGE_LEN], at: usize) -> u32 {

@@ -67,19 +67,20 @@ impl<'a> Directory<'a> {
     }
 
     /// Makes every sender heard and puts each one's frame into `received`; nothing if
-    /// more than 64 would be heard. No sender is the controller itself.
-    pub fn hear(&self, heard: &mut List, received: &mut Received<'a>) -> Option<()> {
+    /// more than 64 would be heard. The tray is of the state's round, and no sender is
+    /// the controller itself.
+    pub fn hear(&self, state: &mut State, received: &mut Received<'a>) -> Option<()> {
         // The place in `received` of the one at each place of heard.
         let mut places = [NO_PLACE; MAX_NUMBERS];
         let mut guess = 0;
         for entry in self.entries() {
-            let place = match place_of(heard, entry.sender, guess) {
+            let place = match place_of(&state.heard, entry.sender, guess) {
                 Ok(place) => place,
-                Err(_) if heard.is_full() => return None,
+                Err(_) if state.heard.is_full() => return None,
                 Err(place) => {
-                    places.copy_within(place..heard.as_slice().len(), place + 1);
+                    places.copy_within(place..state.heard.len(), place + 1);
                     places[place] = NO_PLACE;
-                    heard.insert(place, entry.sender);
+                    state.hear(place, entry.sender);
                     place
                 }
             };

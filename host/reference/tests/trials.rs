@@ -45,6 +45,18 @@ impl Controller {
             reference::decision(image)
         )
     }
+
+    /// Every heard number with the round of the tray that first brought it.
+    fn record(&self) -> Vec<(u32, u32)> {
+        let image = &self.image;
+        let at = |i| {
+            (
+                reference::heard_number(image, i),
+                reference::first_round(image, i),
+            )
+        };
+        (0..reference::heard(image)).map(at).collect()
+    }
 }
 
 fn empty_tray(round: u8) -> [u8; 8] {
@@ -59,16 +71,23 @@ fn tray_of_one(offset: u8) -> Vec<u8> {
     tray
 }
 
+/// A tray of a round with these senders and frames.
+fn tray_from(round: u8, entries: &[(u8, &[u8])]) -> Vec<u8> {
+    let mut tray = vec![0, 0, 0, round, 0, entries.len() as u8, 0, 0];
+    let mut offset = (8 + 8 * entries.len()) as u16;
+    for &(sender, frame) in entries {
+        let [high, low] = offset.to_be_bytes();
+        tray.extend([0, 0, 0, sender, high, low, 0, frame.len() as u8]);
+        offset += frame.len() as u16;
+    }
+    tray.extend(entries.iter().flat_map(|(_, frame)| *frame));
+    tray
+}
+
 /// A tray of round 1 with these frames under number 9.
 fn tray_of(frames: &[&[u8]]) -> Vec<u8> {
-    let mut tray = vec![0, 0, 0, 1, 0, frames.len() as u8, 0, 0];
-    let mut offset = 8 + 8 * frames.len();
-    for frame in frames {
-        tray.extend([0, 0, 0, 9, 0, offset as u8, 0, frame.len() as u8]);
-        offset += frame.len();
-    }
-    tray.extend(frames.concat());
-    tray
+    let entries: Vec<(u8, &[u8])> = frames.iter().map(|&frame| (9, frame)).collect();
+    tray_from(1, &entries)
 }
 
 fn roster(numbers: &[u32]) -> Vec<u8> {
@@ -230,5 +249,95 @@ fn an_image_not_sound_has_no_answers() {
     let sizes = [reference::heard, reference::candidates, reference::echoes];
     for call in sizes.iter().chain(&[reference::round, reference::king]) {
         assert_eq!(call(&c.image), 0);
+    }
+    assert_eq!(reference::heard_number(&c.image, 0), 0);
+}
+
+/// Request A8: 5 comes late and in front of the others, 8 between them and later still.
+#[test]
+fn a_number_keeps_the_round_that_first_brought_it() {
+    let mut c = Controller::start(7, 1);
+    assert_eq!(c.record(), [(7, 0)]);
+    assert_eq!(c.tray(&tray_from(1, &[(9, &INIT)])), WORKED);
+    assert_eq!(c.record(), [(7, 0), (9, 1)]);
+    assert_eq!(
+        c.tray(&tray_from(2, &[(9, &[]), (5, &roster(&[5]))])),
+        WORKED
+    );
+    assert_eq!(c.record(), [(5, 2), (7, 0), (9, 1)]);
+    let again: [(u8, &[u8]); 4] = [(9, &[]), (8, &[]), (5, &[]), (8, &[1])];
+    assert_eq!(c.tray(&tray_from(3, &again)), WORKED);
+    assert_eq!(c.record(), [(5, 2), (7, 0), (8, 3), (9, 1)]);
+    assert_eq!(c.tray(&empty_tray(4)), WORKED);
+    assert_eq!(c.record(), [(5, 2), (7, 0), (8, 3), (9, 1)]);
+    for past in [4, 63, 64, 1 << 30, u32::MAX] {
+        assert_eq!(reference::heard_number(&c.image, past), 0);
+        assert_eq!(reference::first_round(&c.image, past), 0);
+    }
+}
+
+#[test]
+fn any_entry_brings_its_number() {
+    let good: &[u8] = &INIT;
+    for frames in [
+        &[good][..],
+        &[&[]],
+        &[&[1]],
+        &[good, &[]],
+        &[good, &[1], good],
+    ] {
+        let mut c = Controller::start(7, 1);
+        assert_eq!(c.tray(&tray_of(frames)), WORKED);
+        assert_eq!(c.record(), [(7, 0), (9, 1)], "{frames:?}");
+    }
+}
+
+#[test]
+fn the_last_tray_brings_a_number_in_round_194() {
+    let mut c = Controller::start(7, 0);
+    for round in 1..194 {
+        assert_eq!(c.tray(&empty_tray(round)), WORKED);
+    }
+    assert_eq!(c.tray(&tray_from(194, &[(5, &[])])), WORKED);
+    assert_eq!(c.record(), [(5, 194), (7, 0)]);
+}
+
+#[test]
+fn a_refused_tray_brings_nobody() {
+    let all: Vec<(u8, &[u8])> = (10..74).map(|n| (n, &[][..])).collect();
+    let mut c = Controller::start(7, 1);
+    assert_eq!(c.tray(&tray_from(1, &all)), 7);
+    assert_eq!(c.tray(&tray_from(2, &all[1..])), 5);
+    assert_eq!(c.tray(&tray_from(1, &[(9, &[]), (7, &[])])), 6);
+    assert_eq!(c.record(), [(7, 0)]);
+    assert_eq!(c.tray(&tray_from(1, &all[1..])), WORKED);
+    assert_eq!(c.record().len(), 64);
+}
+
+/// Whether a state of round 2, with 5, 7 (the own number) and 9 heard, is sound with
+/// these first rounds from the front.
+fn is_sound_with(first_rounds: &[u8]) -> bool {
+    let mut c = Controller::start(7, 1);
+    assert_eq!(c.tray(&tray_from(1, &[(5, &INIT), (9, &INIT)])), WORKED);
+    assert_eq!(c.image[796..][..64], [&[1, 0, 1][..], &[0; 61]].concat());
+    c.image[796..][..first_rounds.len()].copy_from_slice(first_rounds);
+    reference::round(&c.image) == 2
+}
+
+#[test]
+fn first_rounds_are_in_range_and_0_in_unused_places() {
+    for sound in [[1, 0, 1], [194, 0, 1], [1, 0, 194], [2, 0, 3]] {
+        assert!(is_sound_with(&sound), "{sound:?}");
+    }
+    let own = [[1, 1, 1], [1, 194, 1], [1, 195, 1]];
+    let other = [[0, 0, 1], [1, 0, 0], [0, 0, 0], [195, 0, 1], [1, 0, 255]];
+    for unsound in own.iter().chain(&other) {
+        assert!(!is_sound_with(unsound), "{unsound:?}");
+    }
+    for place in 3..64 {
+        let mut unused = vec![1, 0, 1];
+        unused.resize(place, 0);
+        unused.push(1);
+        assert!(!is_sound_with(&unused), "a first round at {place}");
     }
 }

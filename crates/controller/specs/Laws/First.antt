@@ -85,6 +85,11 @@ pub beside-test : (own : ℕ) (l w : List ℕ) → alongside (firstFits own) l w
 unfolding soundBeside
 beside-test own l w h = rw (recorded-used l w (alongside-length (firstFits own) l w h), h) (same-test (recorded w))
 
+-- the round that a stored state has for a number
+pub first-in-stored : (v : View) (w : List ℕ) (x : ℕ) → length w ≡ length (v .rotor .heard)
+    → firstIn (storedState v (recorded w)) x ≡ firstOf x (v .rotor .heard) w
+first-in-stored v w x e = rw (listed-stored (v .rotor .heard), recorded-used (v .rotor .heard) w e)
+
 -- ---- one tray
 
 module _ (v : View) (w : List ℕ) (es : List Entry) where

@@ -13,7 +13,8 @@ use Rattle.controller.specs.Bytes.{maxFrame, Entry, roundOf, entryCount, sender
 use Rattle.controller.specs.Bytes.{bitFits, maxCount, lengthFits, roundFits, headFits, bodyFits, readRefusal, content, frameBytes}
 use Rattle.controller.specs.Lists.{mem, countIf}
 use Rattle.controller.specs.Thirds.{third, twoThirds}
-use Rattle.controller.specs.State.{View, startView, same, sound}
+use Rattle.controller.specs.State.{View, startView, same, soundRules, soundBeside, sound}
+use Rattle.controller.specs.First.{firstsAfter}
 use Rattle.controller.specs.Received.{frameOf, senders, receive}
 use Rattle.controller.specs.Rotation.{roster, tally, mentioned, echoed, joined, candidatesAfter, decides, kingAfter}
 use Rattle.controller.specs.Bit.{bitTaken, decisionAfter, valueTwoThirds, proposalThird, proposalTwoThirds, proposal, bitAdopted, strongAfter, opinion}
@@ -120,7 +121,7 @@ pub record Tested : Type 0 where
 pub tested : Tested
 unfolding roundOf entryCount sender wellFormed part entries
     kindOf chosenBy saidBy bitFits maxCount lengthFits roundFits headFits bodyFits readRefusal content frameBytes
-    third twoThirds sound frameOf receive roster tally mentioned echoed joined candidatesAfter decides kingAfter
+    third twoThirds soundRules soundBeside sound frameOf receive firstsAfter roster tally mentioned echoed joined candidatesAfter decides kingAfter
     bitTaken decisionAfter valueTwoThirds proposalThird proposalTwoThirds proposal bitAdopted strongAfter opinion step startRefusal trayRefusal
 tested =
     record {

@@ -10,7 +10,8 @@ use mathlib.Core.Path.{_≡_, refl}
 use lib.Dec.{leb, eqb}
 use lib.ListN.{length, drop, replicate}
 use Rattle.controller.specs.Bytes.{maxFrame, entries}
-use Rattle.controller.specs.State.{View, view, storedState, startView, zeroState}
+use Rattle.controller.specs.State.{View, view, storedState, startView, startRounds, zeroState}
+use Rattle.controller.specs.First.{roundsAfter}
 use Rattle.controller.specs.Rules.{next}
 use Rattle.controller.specs.Refusals.{startRefusal, trayRefusal}
 use Rattle.controller.specs.Calls.{Promise, sentBytes}
@@ -20,18 +21,19 @@ use Rattle.run.specs.Run.{Place, StartCall, TrayCall, HandedOn, Controll
 
 -- ---- calls
 
-abbrev answerOf : ℕ → View → State → Answer
-answerOf n made kept = record {
+abbrev answerOf : ℕ → View → List ℕ → State → Answer
+answerOf n made rounds kept = record {
   refusal = n;
-  state = cond (eqb n 0) (storedState made) kept;
+  state = cond (eqb n 0) (storedState made rounds) kept;
   length = cond (eqb n 0) (length (sentBytes made)) 0;
 }
 
 abbrev bufferOf : ℕ → View → List ℕ → List ℕ
 bufferOf n made before = cond (eqb n 0) (sentBytes made ++ drop (length (sentBytes made)) before) before
 
-pub promise-kept : (n : ℕ) (made : View) (kept : State) (before : List ℕ) → Promise n made kept before (answerOf n made kept) (bufferOf n made before)
-promise-kept n made kept before = record { number = refl; state = refl; written = refl; output = refl }
+pub promise-kept : (n : ℕ) (made : View) (rounds : List ℕ) (kept : State) (before : List ℕ)
+    → Promise n made rounds kept before (answerOf n made rounds kept) (bufferOf n made before)
+promise-kept n made rounds kept before = record { number = refl; state = refl; written = refl; output = refl }
 
 -- the promises do not speak of where a buffer lies
 abbrev anywhere : Place
@@ -45,26 +47,27 @@ startCall number bit before =
       bit = bit;
       before = before;
       after = bufferOf n made before;
-      answer = answerOf n made zeroState;
+      answer = answerOf n made startRounds zeroState;
       lifetimes = ([], tt);
       out = anywhere;
-      promise = promise-kept n made zeroState before;
+      promise = promise-kept n made startRounds zeroState before;
     }
 
 abbrev pub trayCall : State → List ℕ → List ℕ → TrayCall
 trayCall s b before =
     let n = trayRefusal s b (length before) in
     let made = next (view s) (entries b) in
+    let rounds = roundsAfter s (entries b) in
     record {
       state = s;
       tray = b;
       before = before;
       after = bufferOf n made before;
-      answer = answerOf n made s;
+      answer = answerOf n made rounds s;
       lifetimes = ([], ([], tt));
       source = anywhere;
       out = anywhere;
-      promise = promise-kept n made s before;
+      promise = promise-kept n made rounds s before;
     }
 
 -- ---- a controller's calls

@@ -1,5 +1,6 @@
 -- Laws of calls, from their promises alone: what a call that works gives, and what holds along a controller's list.
---     Returns v a after        the answer a and the buffer `after` are those of a call that made the state v: its stored form, and its frame in front
+--     Returns v p a after      the answer a and the buffer `after` are those of a call that made the state v: its stored form, with the record whose
+--                              places are p, and its frame in front
 --     receivedWith k         what is received with a tray by the state it is handed over with
 --     madeBy k               the state that a tray makes of the state it is handed over with
 --     returned ks            the states that the calls ks return
@@ -16,7 +17,8 @@ use lib.Dec.{eqb}
 use lib.ListN.{length, take}
 use lib.Seq.{take-append-seam}
 use Rattle.controller.specs.Bytes.{entries}
-use Rattle.controller.specs.State.{View, view, storedState, startView}
+use Rattle.controller.specs.State.{View, view, storedState, startView, startRounds}
+use Rattle.controller.specs.First.{roundsAfter}
 use Rattle.controller.specs.Received.{Received, receive}
 use Rattle.controller.specs.Rules.{next}
 use Rattle.controller.specs.Calls.{Promise, sentBytes}
@@ -31,25 +33,25 @@ use Rattle.run.specs.Outcome.{Decides}
 
 -- ---- one call
 
-pub record Returns (v : View) (a : Answer) (after : List ℕ) : Type 0 where
-  pub state : a .state ≡ storedState v
+pub record Returns (v : View) (p : List ℕ) (a : Answer) (after : List ℕ) : Type 0 where
+  pub state : a .state ≡ storedState v p
   pub frame : take (a .length) after ≡ sentBytes v
 
-promise-makes : {n : ℕ} {v : View} {s : State} {before : List ℕ} {a : Answer} {after : List ℕ}
-    → Promise n v s before a after → a .refusal ≡ 0 → Returns v a after
-promise-makes {n} {v} p e =
-    let t : eqb n 0 ≡ true = eq-eqb n 0 (sym (p .number) ∙ e) in
-    record { state = rw t at (p .state); frame = rw (p .written, p .output, t) (take-append-seam (sentBytes v) _) }
+promise-makes : {n : ℕ} {v : View} {p : List ℕ} {s : State} {before : List ℕ} {a : Answer} {after : List ℕ}
+    → Promise n v p s before a after → a .refusal ≡ 0 → Returns v p a after
+promise-makes {n} {v} h e =
+    let t : eqb n 0 ≡ true = eq-eqb n 0 (sym (h .number) ∙ e) in
+    record { state = rw t at (h .state); frame = rw (h .written, h .output, t) (take-append-seam (sentBytes v) _) }
 
-promise-keeps : {n : ℕ} {v : View} {s : State} {before : List ℕ} {a : Answer} {after : List ℕ}
-    → Promise n v s before a after → a .refusal ≢ 0 → a .state ≡ s
-promise-keeps {n} p e = let t : eqb n 0 ≡ false = ne-eqb n 0 (λ z. e (p .number ∙ z)) in rw t at (p .state)
+promise-keeps : {n : ℕ} {v : View} {p : List ℕ} {s : State} {before : List ℕ} {a : Answer} {after : List ℕ}
+    → Promise n v p s before a after → a .refusal ≢ 0 → a .state ≡ s
+promise-keeps {n} h e = let t : eqb n 0 ≡ false = ne-eqb n 0 (λ z. e (h .number ∙ z)) in rw t at (h .state)
 
-pub makes-view : {v : View} {a : Answer} {after : List ℕ} → Returns v a after → view (a .state) ≡ v
-makes-view {v} m = ap view (m .state) ∙ view-stored v
+pub makes-view : {v : View} {p : List ℕ} {a : Answer} {after : List ℕ} → Returns v p a after → view (a .state) ≡ v
+makes-view {v} {p} m = ap view (m .state) ∙ view-stored v p
 
 -- what a call wrote, up to the returned length, is the frame of the state that it returned
-makes-sent : {v : View} {a : Answer} {after : List ℕ} → Returns v a after → take (a .length) after ≡ sentBytes (view (a .state))
+makes-sent : {v : View} {p : List ℕ} {a : Answer} {after : List ℕ} → Returns v p a after → take (a .length) after ≡ sentBytes (view (a .state))
 makes-sent m = m .frame ∙ ap sentBytes (sym (makes-view m))
 
 -- what it received
@@ -62,7 +64,7 @@ madeBy k = next (view (k .state)) (entries (k .tray))
 pub accepted-fits : (k : TrayCall) → Accepted k → Fits (k .state) (k .tray)
 accepted-fits k w = tray-accepted (k .state) (k .tray) (length (k .before)) (sym (k .promise .number) ∙ w) .0
 
-pub accepted-makes : (k : TrayCall) → Accepted k → Returns (madeBy k) (k .answer) (k .after)
+pub accepted-makes : (k : TrayCall) → Accepted k → Returns (madeBy k) (roundsAfter (k .state) (entries (k .tray))) (k .answer) (k .after)
 accepted-makes k w = promise-makes (k .promise) w
 
 -- worked calls raise the round by 1
@@ -70,7 +72,7 @@ pub accepted-round : (k : TrayCall) → Accepted k → k .answer .state .round �
 accepted-round k w = let m = accepted-makes k w in rw (m .state) (omega (arith, step-round (view (k .state)) (receivedWith k)))
 
 -- refused calls return the given state
-accepted-or-kept : (k : TrayCall) → Accepted k ⊎ (k .answer .state ≡ k .state)
+pub accepted-or-kept : (k : TrayCall) → Accepted k ⊎ (k .answer .state ≡ k .state)
 accepted-or-kept k = elim (true-or-false (eqb (k .answer .refusal) 0)) [
   | inl t ↦ inl (eqb-true _ _ t)
   | inr t ↦ inr (promise-keeps (k .promise) (eqb-false _ _ t))
@@ -208,7 +210,7 @@ first-decided u s (k ∷ ks) h i made = elim (ℕ-discrete (s .decision) 2) [
 module _ (c : Controller) where
   open Controller c using (number, start, trays, handed)
 
-  pub start-returns : Returns (startView number (start .bit)) (start .answer) (start .after)
+  pub start-returns : Returns (startView number (start .bit)) startRounds (start .answer) (start .after)
   start-returns = promise-makes (start .promise) (c .started)
 
   pub start-round : start .answer .state .round ≡ 1
