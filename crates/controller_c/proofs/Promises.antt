@@ -9,7 +9,7 @@ use mathlib.Core.List.{List}
 use mathlib.Core.Path.{_≡_, refl, sym, ap, _∙_}
 use lib.Dec.{eqb}
 use Rattle.controller.specs.Calls.{Promise}
-use Rattle.controller.specs.Fields.{stateOf, answerOf}
+use Rattle.controller.specs.Fields.{wholeOf, answerOf}
 use Rattle.controller.specs.State.{View, storedState, sound}
 use Rattle.controller.specs.declared.state.Answer.{Answer}
 use Rattle.controller.specs.declared.state.Fields.{Fields}
@@ -17,25 +17,25 @@ use Rattle.controller.specs.declared.state.State.{State}
 use Rattle.controller_c.specs.Calls.{ImagePromise, HandedOver}
 use Rattle.controller_c.specs.Image.{laidOut}
 
-module _ (k : ℕ) (v : View) (s : State) (before : List ℕ) (a : Answer) (after : List ℕ) (p : Promise k v s before a after) where
-  pub parted : (f : Fields) (heard candidates echoes : List ℕ) → stateOf f heard candidates echoes ≡ a .state
-      → Promise k v s before (answerOf (record { refusal = a .refusal; fields = f; length = a .length }) heard candidates echoes) after
-  parted f heard candidates echoes e = record { number = p .number; state = e ∙ p .state; written = p .written; output = p .output }
+module _ (k : ℕ) (v : View) (d : List ℕ) (s : State) (before : List ℕ) (a : Answer) (after : List ℕ) (p : Promise k v d s before a after) where
+  pub parted : (f : Fields) (heard candidates echoes since : List ℕ) → wholeOf f heard candidates echoes since ≡ a .state
+      → Promise k v d s before (answerOf (record { refusal = a .refusal; fields = f; length = a .length }) heard candidates echoes since) after
+  parted f heard candidates echoes since e = record { number = p .number; state = e ∙ p .state; written = p .written; output = p .output }
 
-  pub made-sound : (k ≡ 0 → sound (storedState v) ≡ true) → a .refusal ≡ 0 → sound (a .state) ≡ true
+  pub made-sound : (k ≡ 0 → sound (storedState v d) ≡ true) → a .refusal ≡ 0 → sound (a .state) ≡ true
   made-sound f h =
       let e : k ≡ 0 = sym (p .number) ∙ h in
       ap sound (p .state ∙ rw e) ∙ f e
 
   -- only a state that was made is laid out
-  laid-out : (b : List ℕ) → cond (eqb (a .refusal) 0) (laidOut (a .state)) b ≡ cond (eqb k 0) (laidOut (storedState v)) b
+  laid-out : (b : List ℕ) → cond (eqb (a .refusal) 0) (laidOut (a .state)) b ≡ cond (eqb k 0) (laidOut (storedState v d)) b
   laid-out b = rw (p .number) (pick (eqb k 0) (p .state))
     where
-      pick : (t : Bool) → a .state ≡ cond t (storedState v) s → cond t (laidOut (a .state)) b ≡ cond t (laidOut (storedState v)) b
+      pick : (t : Bool) → a .state ≡ cond t (storedState v d) s → cond t (laidOut (a .state)) b ≡ cond t (laidOut (storedState v d)) b
       pick true e = ap laidOut e
       pick false e = refl
 
-  pub promise-handed : (n : ℕ) (b : List ℕ) (r : ℕ) (c : List ℕ) (l : ℕ) → n ≡ k → HandedOver a b r c l → ImagePromise n v b before r c after l
+  pub promise-handed : (n : ℕ) (b : List ℕ) (r : ℕ) (c : List ℕ) (l : ℕ) → n ≡ k → HandedOver a b r c l → ImagePromise n v d b before r c after l
   promise-handed n b r c l e h =
       record {
         number = h .number ∙ p .number ∙ sym e;
@@ -44,5 +44,5 @@ module _ (k : ℕ) (v : View) (s : State) (before : List ℕ) (a : Answer) (afte
         written = rw e (h .written ∙ p .written);
       }
 
-pub image-refused : (n : ℕ) (v : View) (b before : List ℕ) (r l : ℕ) → n ≡ 1 → (r ≡ 1) × (l ≡ 0) → ImagePromise n v b before r b before l
-image-refused n v b before r l e h = record { number = h .0 ∙ sym e; image = rw e; output = rw e; written = rw e (h .1) }
+pub image-refused : (n : ℕ) (v : View) (d b before : List ℕ) (r l : ℕ) → n ≡ 1 → (r ≡ 1) × (l ≡ 0) → ImagePromise n v d b before r b before l
+image-refused n v d b before r l e h = record { number = h .0 ∙ sym e; image = rw e; output = rw e; written = rw e (h .1) }

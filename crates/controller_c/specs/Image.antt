@@ -1,8 +1,9 @@
--- The image of a state, 1,024 bytes that a host keeps: the page docs/IMAGE.md, and document 01, "A controller's state".
+-- The image of a state, 1,024 bytes that a host keeps: the page docs/IMAGE.md, and document 01, "A controller's state", with document 02's A8.
 --     imageBytes, ownAt, ..     the image's length and the offsets of its fields
 --     listBytes n               a list's 260 bytes: its count, then its 64 places
 --     laidOut s                 the bytes of the state s
 --     listAt b at               the list that stands in b from at on
+--     roundsAt b                the record that stands in b
 --     takenApart b              the state in the bytes b
 --     withLists s b             the bytes b with the lists of the state s in their places
 --     noPlaces                  the 64 places of an empty list
@@ -14,7 +15,7 @@ use mathlib.Core.Bool.{Bool, true, _&&_}
 use mathlib.Core.List.{List, [], _∷_, _++_}
 use lib.Dec.{eqb}
 use lib.ListN.{length, getD, drop, replicate}
-use lib.Seq.{sets}
+use lib.Seq.{sets, slice}
 use Rattle.wire.specs.Limits.{maxNumbers}
 use Rattle.wire.specs.Words.{wordAt, wordBytes, wordsAt, wordsBytes}
 use Rattle.wire.specs.declared.frame.Numbers.{Numbers}
@@ -56,9 +57,13 @@ candidatesAt = 276
 abbrev pub echoesAt : ℕ
 echoesAt = 536
 
+-- document 02, A8: beside each place of heard, the round in which that number was first heard, one byte each
+abbrev pub sinceAt : ℕ
+sinceAt = 796
+
 -- from here to the end the bytes are 0
 abbrev pub reservedAt : ℕ
-reservedAt = 796
+reservedAt = 860
 
 -- a list: the width of its count, which its places follow, and of the whole
 abbrev pub countBytes : ℕ
@@ -85,7 +90,7 @@ unfoldable pub zerosFrom : ℕ → List ℕ
 zerosFrom at = replicate (imageBytes - at) 0
 
 unfoldable pub laidOut : State → List ℕ
-laidOut s = headBytes s ++ (listBytes (s .heard) ++ (listBytes (s .candidates) ++ (listBytes (s .echoes) ++ zerosFrom reservedAt)))
+laidOut s = headBytes s ++ (listBytes (s .heard) ++ (listBytes (s .candidates) ++ (listBytes (s .echoes) ++ (s .since ++ zerosFrom reservedAt))))
 
 abbrev pub withLists : State → List ℕ → List ℕ
 withLists s b = sets (sets (sets b heardAt (listBytes (s .heard))) candidatesAt (listBytes (s .candidates))) echoesAt (listBytes (s .echoes))
@@ -102,6 +107,10 @@ placesAt b at = wordsAt b at maxNumbers
 abbrev pub listAt : List ℕ → ℕ → Numbers
 listAt b at = record { len = wordAt b at; at = placesAt b (at + countBytes) }
 
+-- the 64 places of the record
+unfoldable pub roundsAt : List ℕ → List ℕ
+roundsAt b = slice sinceAt reservedAt b
+
 abbrev pub takenApart : List ℕ → State
 takenApart b =
     record {
@@ -115,6 +124,7 @@ takenApart b =
       heard = listAt b heardAt;
       candidates = listAt b candidatesAt;
       echoes = listAt b echoesAt;
+      since = roundsAt b;
     }
 
 -- ---- soundness

@@ -8,10 +8,10 @@ ghost use lib.Seq.{sets, slice};
 ghost use Rattle.wire.specs.Lent.{before, after};
 ghost use Rattle.wire.specs.Limits.{maxNumbers, numberWidth};
 ghost use Rattle.wire.specs.Words.{wordsAt, wordsBytes};
-ghost use Rattle.controller.specs.Fields.{stateGiven, stateOf, stateBefore};
-ghost use Rattle.controller.specs.State.{sound, soundList};
-ghost use Rattle.controller_c.specs.Image.{withLists, noPlaces, imageBytes, heardAt, reservedAt, listWidth, headBytes};
-ghost use Rattle.controller_c.specs.Image.{listBytes, laidOut, listAt, takenApart, zeros, shaped, soundImage};
+ghost use Rattle.controller.specs.Fields.{stateGiven, stateOf, stateBefore, wholeGiven, wholeOf, wholeBefore};
+ghost use Rattle.controller.specs.State.{sound, soundRules, soundList};
+ghost use Rattle.controller_c.specs.Image.{withLists, noPlaces, imageBytes, heardAt, sinceAt, reservedAt, listWidth, headBytes};
+ghost use Rattle.controller_c.specs.Image.{listBytes, laidOut, listAt, roundsAt, takenApart, zeros, shaped, soundImage};
 use crate::layout::CANDIDATES_AT;
 use crate::layout::COUNT_BYTES;
 use crate::layout::DECISION_AT;
@@ -82,8 +82,11 @@ fn take_list(image: &[u8], from: usize, at: &mut [u32; MAX_NUMBERS]) -> usize
     len
 }
 
-// The record of first rounds, a byte for each.
-pub(crate) fn take_rounds(image: &[u8]) -> [u8; MAX_NUMBERS] {
+// The record, a byte for each place.
+pub(crate) fn take_rounds(image: &[u8]) -> [u8; MAX_NUMBERS]
+    requires { ⌜ length (now image) ≡ imageBytes ⌝ }
+    ensures { λ r. ⌜ r ≡ roundsAt (before image) ⌝ }
+{
     let mut rounds = [0u8; MAX_NUMBERS];
     let mut i = 0;
     while i < MAX_NUMBERS {
@@ -101,7 +104,7 @@ pub(crate) fn take_apart(
     echoes: &mut [u32; MAX_NUMBERS],
 ) -> Fields
     requires { ⌜ (length (now image) ≡ imageBytes) × (now heard ≡ noPlaces) × (now candidates ≡ noPlaces) × (now echoes ≡ noPlaces) ⌝ }
-    ensures { λ r. ⌜ stateOf r (after heard) (after candidates) (after echoes) ≡ takenApart (before image) ⌝ }
+    ensures { λ r. ⌜ wholeOf r (after heard) (after candidates) (after echoes) (roundsAt (before image)) ≡ takenApart (before image) ⌝ }
 {
     let heard_len = take_list(image, HEARD_AT, heard);
     let candidates_len = take_list(image, CANDIDATES_AT, candidates);
@@ -203,7 +206,7 @@ fn put_lists(
     candidates: &[u32; MAX_NUMBERS],
     echoes: &[u32; MAX_NUMBERS],
 )
-    requires { ⌜ (sound (stateGiven fields heard candidates echoes) ≡ true) × (reservedAt ≤ length (now image)) ⌝ }
+    requires { ⌜ (soundRules (stateGiven fields heard candidates echoes) ≡ true) × (sinceAt ≤ length (now image)) ⌝ }
     ensures { λ r. ⌜ after image ≡ withLists (stateBefore fields heard candidates echoes) (before image) ⌝ }
 {
     put_list(image, HEARD_AT, heard, fields.heard);
@@ -211,7 +214,10 @@ fn put_lists(
     put_list(image, ECHOES_AT, echoes, fields.echoes);
 }
 
-fn put_rounds(image: &mut [u8], since: &[u8; MAX_NUMBERS]) {
+fn put_rounds(image: &mut [u8], since: &[u8; MAX_NUMBERS])
+    requires { ⌜ (length (now since) ≡ maxNumbers) × (reservedAt ≤ length (now image)) ⌝ }
+    ensures { λ r. ⌜ after image ≡ sets (before image) sinceAt (before since) ⌝ }
+{
     let rounds = *since;
     let mut i = 0;
     while i < MAX_NUMBERS {
@@ -229,8 +235,8 @@ pub(crate) fn lay_out(
     since: &[u8; MAX_NUMBERS],
     image: &mut [u8],
 )
-    requires { ⌜ (sound (stateGiven fields heard candidates echoes) ≡ true) × (length (now image) ≡ imageBytes) ⌝ }
-    ensures { λ r. ⌜ after image ≡ laidOut (stateBefore fields heard candidates echoes) ⌝ }
+    requires { ⌜ (sound (wholeGiven fields heard candidates echoes since) ≡ true) × (length (now image) ≡ imageBytes) ⌝ }
+    ensures { λ r. ⌜ after image ≡ laidOut (wholeBefore fields heard candidates echoes since) ⌝ }
 {
     put_head(image, fields);
     put_lists(image, fields, heard, candidates, echoes);

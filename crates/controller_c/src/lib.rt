@@ -2,11 +2,13 @@
 ghost use mathlib.Core.Bool.{cond};
 ghost use mathlib.Core.Path.{_≡_};
 ghost use Prim.Native.Nat.{_≤_};
-ghost use lib.ListN.{length};
+ghost use lib.ListN.{length, getD};
+ghost use Rattle.wire.specs.Numbers.{listed};
 ghost use Rattle.wire.specs.Frame.{readRefusal};
 ghost use Rattle.wire.specs.Lent.{before, after};
 ghost use Rattle.wire.specs.Words.{wordAt};
 ghost use Rattle.controller.specs.Fields.{answerOf};
+ghost use Rattle.controller.specs.State.{firstRounds};
 ghost use Rattle.controller_c.specs.Calls.{StartImagePromise, TrayImagePromise, fieldOf, HandsOver, HandedOver};
 ghost use Rattle.controller_c.specs.Image.{echoesAt, soundImage, takenApart};
 use crate::image::is_shaped;
@@ -46,8 +48,8 @@ fn hand_over(
     image: &mut [u8],
     written: &mut usize,
 ) -> u8
-    requires { ⌜ HandsOver (answerOf worked (now heard) (now candidates) (now echoes)) (length (now image)) ⌝ }
-    ensures { λ r. ⌜ HandedOver (answerOf worked (before heard) (before candidates) (before echoes)) (before image) r (after image) (after written) ⌝ }
+    requires { ⌜ HandsOver (answerOf worked (now heard) (now candidates) (now echoes) (now since)) (length (now image)) ⌝ }
+    ensures { λ r. ⌜ HandedOver (answerOf worked (before heard) (before candidates) (before echoes) (before since)) (before image) r (after image) (after written) ⌝ }
 {
     *written = worked.length;
     let refusal = worked.refusal;
@@ -208,7 +210,9 @@ pub extern "C" fn controller_echoes(image: &[u8]) -> u32
 
 // The number at place `i` of heard, from 0; 0 past the end.
 #[no_mangle]
-pub extern "C" fn controller_heard_number(image: &[u8], i: u32) -> u32 {
+pub extern "C" fn controller_heard_number(image: &[u8], i: u32) -> u32
+    ensures { λ r. ⌜ r ≡ fieldOf (before image) (getD (listed ((takenApart (before image)) .heard)) i 0) ⌝ }
+{
     let place = i as usize;
     if place < MAX_NUMBERS {
         field(image, HEARD_AT + COUNT_BYTES + NUMBER_WIDTH * place)
@@ -219,10 +223,16 @@ pub extern "C" fn controller_heard_number(image: &[u8], i: u32) -> u32 {
 
 // The round of the tray that first brought the number at place `i` of heard; 0 for the own number, and past the end.
 #[no_mangle]
-pub extern "C" fn controller_first_round(image: &[u8], i: u32) -> u32 {
+pub extern "C" fn controller_first_round(image: &[u8], i: u32) -> u32
+    ensures { λ r. ⌜ r ≡ fieldOf (before image) (getD (firstRounds (takenApart (before image))) i 0) ⌝ }
+{
     let place = i as usize;
-    if (place < MAX_NUMBERS) && is_sound_image(image) {
-        image[SINCE_AT + place] as u32
+    if is_sound_image(image) {
+        if place < MAX_NUMBERS {
+            image[SINCE_AT + place] as u32
+        } else {
+            0
+        }
     } else {
         0
     }

@@ -27,7 +27,7 @@ hand-over-requires c κs =
     let begun = started apart in
     record {
       whole = search needs;
-      made = made-sound _ _ _ _ _ _ (parted _ _ _ _ _ _ (begun .start .ensures) _ _ _ _ (apart .fields-of .ensures)) (start-makes _ _ _);
+      made = made-sound _ _ _ _ _ _ _ (parted _ _ _ _ _ _ _ (begun .start .ensures) _ _ _ _ _ (apart .fields-of .ensures)) (start-makes _ _ _);
     }
 
 no-image-requires : tie.Need-no-image-requires
@@ -44,12 +44,12 @@ returns c =
     let handed = c .before .before in
     let apart = parts (handed .before) in
     let begun = started apart in
-    promise-handed _ _ _ _ _ _ (parted _ _ _ _ _ _ (begun .start .ensures) _ _ _ _ (apart .fields-of .ensures)) _ _ _ _ _
+    promise-handed _ _ _ _ _ _ _ (parted _ _ _ _ _ _ _ (begun .start .ensures) _ _ _ _ _ (apart .fields-of .ensures)) _ _ _ _ _
     (rw (eq-eqb _ imageBytes (begun .before .before .if1 .taken)))
     (handed .hand-over .ensures)
 
 returns-2 : tie.Need-returns-2
-returns-2 c = image-refused _ _ _ _ _ _ (rw (ne-eqb _ imageBytes (c .before .before .if1 .left))) (c .no-image .ensures)
+returns-2 c = image-refused _ _ _ _ _ _ _ (rw (ne-eqb _ imageBytes (c .before .before .if1 .left))) (c .no-image .ensures)
 
 pub controller-start-spec : {M : Type 1} → statement M
 controller-start-spec =

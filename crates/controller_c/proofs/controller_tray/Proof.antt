@@ -51,7 +51,7 @@ hand-over-requires c κs =
     let apart = parts (done .before .before) in
     record {
       whole = shaped-length _ (passed (fits (apart .before .before)));
-      made = made-sound _ _ _ _ _ _ (done .work .ensures) (tray-makes _ _ _);
+      made = made-sound _ _ _ _ _ _ _ (done .work .ensures) (tray-makes _ _ _);
     }
 
 no-image-requires : tie.Need-no-image-requires
@@ -70,7 +70,7 @@ returns c =
     let apart = parts (done .before .before) in
     let shaped = fits (apart .before .before) in
     let t = now (given (shaped .before .before .before) .args .tray) in
-    promise-handed _ _ _ _ _ _ (joined _ _ t _ _ _ (apart .take-apart .ensures) (done .work .ensures)) _ _ _ _ _
+    promise-handed _ _ _ _ _ _ _ (joined _ _ t _ _ _ (apart .take-apart .ensures) (done .work .ensures)) _ _ _ _ _
     (shaped-refusal _ _ _ (passed shaped))
     (handed .hand-over .ensures)
 
@@ -79,7 +79,7 @@ same-length-3 c = search needs
 
 returns-2 : tie.Need-returns-2
 returns-2 c =
-    image-refused _ _ _ _ _ _ (unshaped-refusal _ _ _ (sym (c .before .before .before .is-shaped .ensures) ∙ c .before .before .if1 .left))
+    image-refused _ _ _ _ _ _ _ (unshaped-refusal _ _ _ (sym (c .before .before .before .is-shaped .ensures) ∙ c .before .before .if1 .left))
     (c .no-image .ensures)
 
 pub controller-tray-spec : {M : Type 1} → statement M

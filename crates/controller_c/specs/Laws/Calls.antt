@@ -8,12 +8,12 @@ use mathlib.Core.Bool.{Bool, true, false, cond}
 use mathlib.Core.List.{List}
 use mathlib.Core.Path.{_≡_, refl, sym}
 use Rattle.wire.specs.Tray.{entries}
-use Rattle.controller.specs.State.{view, storedState, startView, sound}
+use Rattle.controller.specs.State.{view, storedState, startView, startRounds, sound}
+use Rattle.controller.specs.First.{roundsAfter}
 use Rattle.controller.specs.Rules.{next}
 use Rattle.controller.specs.Refusals.{startRefusal, trayRefusal}
 use Rattle.controller.specs.Laws.Refusals.{start-accepted, tray-accepted}
-use Rattle.controller.specs.Laws.Rules.{next-sound}
-use Rattle.controller.specs.Laws.State.{sound-gives, sound-test, start-sound}
+use Rattle.controller.specs.Laws.First.{next-stays-sound, start-stays-sound}
 use Rattle.controller.specs.declared.state.State.{State}
 use Rattle.controller_c.specs.Image.{laidOut, takenApart, shaped, soundImage}
 use Rattle.controller_c.specs.Calls.{trayImageRefusal}
@@ -40,22 +40,19 @@ unshaped-refusal b t n h = rw h
 
 -- ---- the state that a call makes is sound
 
-pub start-makes : (number bit n : ℕ) → startRefusal number bit n ≡ 0 → sound (storedState (startView number bit)) ≡ true
-start-makes number bit n e =
-    let a = start-accepted number bit n e in
-    sound-test _ (start-sound number bit (a .0) (a .1))
+pub start-makes : (number bit n : ℕ) → startRefusal number bit n ≡ 0 → sound (storedState (startView number bit) startRounds) ≡ true
+start-makes number bit n e = let a = start-accepted number bit n e in start-stays-sound number bit (a .0) (a .1)
 
-pub tray-makes : (s : State) (t : List ℕ) (n : ℕ) → trayRefusal s t n ≡ 0 → sound (storedState (next (view s) (entries t))) ≡ true
-tray-makes s t n e =
-    let f = tray-accepted s t n e .0 in
-    sound-test _ (next-sound (view s) (entries t) (sound-gives s (f .state)) (f .early) (f .nonzero) (f .heard) (f .candidates) (f .echoes))
+pub tray-makes : (s : State) (t : List ℕ) (n : ℕ) → trayRefusal s t n ≡ 0 → sound (storedState (next (view s) (entries t)) (roundsAfter s (entries t))) ≡ true
+tray-makes s t n e = next-stays-sound s t (tray-accepted s t n e .0)
 
 -- ---- an image stands for the state in it
 
-pub start-makes-image : (number bit n : ℕ) → startRefusal number bit n ≡ 0 → soundImage (laidOut (storedState (startView number bit))) ≡ true
+pub start-makes-image : (number bit n : ℕ) → startRefusal number bit n ≡ 0 → soundImage (laidOut (storedState (startView number bit) startRounds)) ≡ true
 start-makes-image number bit n e = laidOut-sound _ (start-makes number bit n e)
 
-pub tray-makes-image : (s : State) (t : List ℕ) (n : ℕ) → trayRefusal s t n ≡ 0 → soundImage (laidOut (storedState (next (view s) (entries t)))) ≡ true
+pub tray-makes-image : (s : State) (t : List ℕ) (n : ℕ) → trayRefusal s t n ≡ 0
+    → soundImage (laidOut (storedState (next (view s) (entries t)) (roundsAfter s (entries t)))) ≡ true
 tray-makes-image s t n e = laidOut-sound _ (tray-makes s t n e)
 
 pub laidOut-refusal : (s : State) (t : List ℕ) (n : ℕ) → sound s ≡ true → trayImageRefusal (laidOut s) t n ≡ trayRefusal s t n

@@ -13,18 +13,18 @@ use native.Mathlib.Nat.{zero-add, add-zero, suc-add, add-assoc}
 use native.Mathlib.Omega.{arith}
 use borrow.Author.Tests.{eqb-true, eq-eqb}
 use lib.Dec.{eqb}
-use lib.ListN.{length, getD, take, drop, replicate, length-append, length-drop, length-replicate}
-use lib.Seq.{slice, take-all, drop-at, getD-take, getD-drop}
+use lib.ListN.{length, getD, take, drop, replicate, length-append, length-drop, length-replicate, take-append-drop}
+use lib.Seq.{slice, take-all, take-at, drop-at, drop-append-le, length-take-le, getD-take, getD-drop}
 use Rattle.wire.specs.Limits.{maxNumbers, numberWidth}
 use Rattle.wire.specs.Numbers.{listed}
 use Rattle.wire.specs.Words.{wordAt, wordBytes, wordsAt, wordsBytes, Below}
 use Rattle.wire.specs.Laws.Words.{word-back, words-behind, byte-drop, word-drop, words-drop}
 use Rattle.wire.specs.declared.frame.Numbers.{Numbers}
-use Rattle.controller.specs.State.{soundList, sound}
-use Rattle.controller.specs.Laws.State.{sound-list-gives, sound-list-test, sound-gives, sound-stored}
+use Rattle.controller.specs.State.{soundList, soundRules, sound}
+use Rattle.controller.specs.Laws.State.{sound-list-gives, sound-list-test, rules-give, rules-stored, sound-rules, since-places}
 use Rattle.controller.specs.declared.state.State.{State}
-use Rattle.controller_c.specs.Image.{imageBytes, heardAt, candidatesAt, echoesAt, reservedAt, countBytes, listWidth, headBytes, listBytes}
-use Rattle.controller_c.specs.Image.{zerosFrom, laidOut, placesAt, listAt, takenApart, zeros, shaped, soundImage}
+use Rattle.controller_c.specs.Image.{imageBytes, heardAt, candidatesAt, echoesAt, sinceAt, reservedAt, countBytes, listWidth, headBytes, listBytes}
+use Rattle.controller_c.specs.Image.{zerosFrom, laidOut, placesAt, listAt, roundsAt, takenApart, zeros, shaped, soundImage}
 
 -- ---- lengths
 
@@ -51,6 +51,7 @@ pub record SizedLists (s : State) : Type 0 where
   pub heard : Sized (s .heard)
   pub candidates : Sized (s .candidates)
   pub echoes : Sized (s .echoes)
+  pub since : length (s .since) ≡ maxNumbers
 
 -- the lists of a sound state
 pub record SoundLists (s : State) : Type 0 where
@@ -58,10 +59,10 @@ pub record SoundLists (s : State) : Type 0 where
   pub candidates : soundList (s .candidates) ≡ true
   pub echoes : soundList (s .echoes) ≡ true
 
-pub sound-lists : (s : State) → sound s ≡ true → SoundLists s
+pub sound-lists : (s : State) → soundRules s ≡ true → SoundLists s
 sound-lists s h =
-    let g = sound-gives s h in
-    let e = sound-stored s h in
+    let g = rules-give s h in
+    let e = rules-stored s h in
     record {
       heard = ap (λ (t : State). soundList (t .heard)) (sym e) ∙ sound-list-test (listed (s .heard)) (g .heard);
       candidates = ap (λ (t : State). soundList (t .candidates)) (sym e) ∙ sound-list-test (listed (s .candidates)) (g .candidates);
@@ -70,11 +71,12 @@ sound-lists s h =
 
 pub sound-sized : (s : State) → sound s ≡ true → SizedLists s
 sound-sized s h =
-    let l = sound-lists s h in
+    let l = sound-lists s (sound-rules s h) in
     record {
       heard = list-sized (s .heard) (l .heard);
       candidates = list-sized (s .candidates) (l .candidates);
       echoes = list-sized (s .echoes) (l .echoes);
+      since = since-places s h;
     }
 
 pub list-bytes-length : (n : Numbers) → Sized n → length (listBytes n) ≡ listWidth
@@ -90,12 +92,14 @@ module _ (s : State) where
   laid-out-length z =
       omega (
         arith,
-        length-append (listBytes (s .heard)) (listBytes (s .candidates) ++ (listBytes (s .echoes) ++ zerosFrom reservedAt)),
-        length-append (listBytes (s .candidates)) (listBytes (s .echoes) ++ zerosFrom reservedAt),
-        length-append (listBytes (s .echoes)) (zerosFrom reservedAt),
+        length-append (listBytes (s .heard)) (listBytes (s .candidates) ++ (listBytes (s .echoes) ++ (s .since ++ zerosFrom reservedAt))),
+        length-append (listBytes (s .candidates)) (listBytes (s .echoes) ++ (s .since ++ zerosFrom reservedAt)),
+        length-append (listBytes (s .echoes)) (s .since ++ zerosFrom reservedAt),
+        length-append (s .since) (zerosFrom reservedAt),
         list-bytes-length (s .heard) (z .heard),
         list-bytes-length (s .candidates) (z .candidates),
         list-bytes-length (s .echoes) (z .echoes),
+        z .since,
         zeros-from-length reservedAt,
       )
 
@@ -195,13 +199,14 @@ list-back p n r k e z =
 module _ (s : State) (z : SizedLists s) where
   heard-back : listAt (laidOut s) heardAt ≡ s .heard
   unfolding laidOut
-  heard-back = list-back (headBytes s) (s .heard) (listBytes (s .candidates) ++ (listBytes (s .echoes) ++ zerosFrom reservedAt)) heardAt refl (z .heard)
+  heard-back = list-back (headBytes s) (s .heard) (listBytes (s .candidates) ++ (listBytes (s .echoes) ++ (s .since ++ zerosFrom reservedAt))) heardAt refl
+      (z .heard)
 
   candidates-back : listAt (laidOut s) candidatesAt ≡ s .candidates
   unfolding laidOut
   candidates-back =
       let p = headBytes s ++ listBytes (s .heard) in
-      let r = listBytes (s .echoes) ++ zerosFrom reservedAt in
+      let r = listBytes (s .echoes) ++ (s .since ++ zerosFrom reservedAt) in
       ap (λ (b : List ℕ). listAt b candidatesAt) (sym (append-assoc (headBytes s) (listBytes (s .heard)) (listBytes (s .candidates) ++ r)))
       ∙ list-back p (s .candidates) r candidatesAt (omega (arith, list-bytes-length (s .heard) (z .heard))) (z .candidates)
 
@@ -209,7 +214,7 @@ module _ (s : State) (z : SizedLists s) where
   unfolding laidOut
   echoes-back =
       let l = listBytes (s .heard) ++ listBytes (s .candidates) in
-      let r = listBytes (s .echoes) ++ zerosFrom reservedAt in
+      let r = listBytes (s .echoes) ++ (s .since ++ zerosFrom reservedAt) in
       let size : length (headBytes s ++ l) ≡ echoesAt =
       omega (
         arith,
@@ -219,7 +224,47 @@ module _ (s : State) (z : SizedLists s) where
       ) in
       ap (λ (b : List ℕ). listAt b echoesAt)
       (ap (λ (t : List ℕ). headBytes s ++ t) (sym (append-assoc (listBytes (s .heard)) (listBytes (s .candidates)) r)) ∙ sym (append-assoc (headBytes s) l r))
-      ∙ list-back (headBytes s ++ l) (s .echoes) (zerosFrom reservedAt) echoesAt size (z .echoes)
+      ∙ list-back (headBytes s ++ l) (s .echoes) (s .since ++ zerosFrom reservedAt) echoesAt size (z .echoes)
+
+  -- what stands before the record
+  abbrev front : List ℕ
+  front = headBytes s ++ (listBytes (s .heard) ++ (listBytes (s .candidates) ++ listBytes (s .echoes)))
+
+  front-length : length front ≡ sinceAt
+  front-length =
+      omega (
+        arith,
+        length-append (listBytes (s .heard)) (listBytes (s .candidates) ++ listBytes (s .echoes)),
+        length-append (listBytes (s .candidates)) (listBytes (s .echoes)),
+        list-bytes-length (s .heard) (z .heard),
+        list-bytes-length (s .candidates) (z .candidates),
+        list-bytes-length (s .echoes) (z .echoes),
+      )
+
+  used-length : length (front ++ s .since) ≡ reservedAt
+  used-length = omega (arith, length-append front (s .since), front-length, z .since)
+
+  -- the record, with the bytes before it and those behind it
+  around : (front ++ s .since) ++ zerosFrom reservedAt ≡ laidOut s
+  unfolding laidOut
+  around =
+      let rest = s .since ++ zerosFrom reservedAt in
+      let lists = listBytes (s .heard) ++ (listBytes (s .candidates) ++ listBytes (s .echoes)) in
+      append-assoc front (s .since) (zerosFrom reservedAt)
+      ∙ append-assoc (headBytes s) lists rest
+      ∙ ap (λ (t : List ℕ). headBytes s ++ t)
+      (append-assoc (listBytes (s .heard)) (listBytes (s .candidates) ++ listBytes (s .echoes)) rest
+      ∙ ap (λ (t : List ℕ). listBytes (s .heard) ++ t) (append-assoc (listBytes (s .candidates)) (listBytes (s .echoes)) rest))
+
+  since-back : roundsAt (laidOut s) ≡ s .since
+  unfolding roundsAt
+  since-back =
+      ap (slice sinceAt reservedAt) (sym around)
+      ∙ ap (drop sinceAt) (take-at (front ++ s .since) (zerosFrom reservedAt) reservedAt used-length)
+      ∙ drop-at front (s .since) sinceAt front-length
+
+  reserved-zero : drop reservedAt (laidOut s) ≡ zerosFrom reservedAt
+  reserved-zero = ap (drop reservedAt) (sym around) ∙ drop-at (front ++ s .since) (zerosFrom reservedAt) reservedAt used-length
 
   fields-back : takenApart (laidOut s) ≡ s
   unfolding laidOut
@@ -230,6 +275,7 @@ module _ (s : State) (z : SizedLists s) where
       let heard = heard-back in
       let candidates = candidates-back in
       let echoes = echoes-back in
+      let since = since-back in
       λ i.
       record {
         own = own i;
@@ -242,6 +288,7 @@ module _ (s : State) (z : SizedLists s) where
         heard = heard i;
         candidates = candidates i;
         echoes = echoes i;
+        since = since i;
       }
 
 pub takenApart-laidOut : (s : State) → sound s ≡ true → takenApart (laidOut s) ≡ s
@@ -289,6 +336,12 @@ module _ (b : List ℕ) (bytes : Below 256 b) where
       )
       (word-drop b bytes 0 (omega arith))
 
+  since-drop : reservedAt ≤ length b → roundsAt b ++ drop reservedAt b ≡ drop sinceAt b
+  unfolding roundsAt
+  since-drop h =
+      sym (drop-append-le sinceAt (take reservedAt b) (drop reservedAt b) (omega (arith, length-take-le reservedAt b h)))
+      ∙ ap (drop sinceAt) (take-append-drop reservedAt b)
+
   pub laidOut-takenApart : soundImage b ≡ true → laidOut (takenApart b) ≡ b
   unfolding laidOut
   laidOut-takenApart h =
@@ -296,6 +349,7 @@ module _ (b : List ℕ) (bytes : Below 256 b) where
       let whole = t .whole in
       rw (
         reserved-are b whole (t .reserved),
+        since-drop (omega arith),
         list-drop echoesAt maxNumbers refl (omega arith),
         list-drop candidatesAt maxNumbers refl (omega arith),
         list-drop heardAt maxNumbers refl (omega arith),
@@ -303,26 +357,6 @@ module _ (b : List ℕ) (bytes : Below 256 b) where
       (head-drop (omega arith))
 
 -- ---- what is laid out is a sound image
-
-reserved-zero : (s : State) → SizedLists s → drop reservedAt (laidOut s) ≡ zerosFrom reservedAt
-unfolding laidOut
-reserved-zero s z =
-    let l = listBytes (s .heard) ++ (listBytes (s .candidates) ++ listBytes (s .echoes)) in
-    let size : length (headBytes s ++ l) ≡ reservedAt =
-    omega (
-      arith,
-      length-append (listBytes (s .heard)) (listBytes (s .candidates) ++ listBytes (s .echoes)),
-      length-append (listBytes (s .candidates)) (listBytes (s .echoes)),
-      list-bytes-length (s .heard) (z .heard),
-      list-bytes-length (s .candidates) (z .candidates),
-      list-bytes-length (s .echoes) (z .echoes),
-    ) in
-    let joined : (headBytes s ++ l) ++ zerosFrom reservedAt ≡ laidOut s =
-    append-assoc (headBytes s) l (zerosFrom reservedAt)
-    ∙ ap (λ (t : List ℕ). headBytes s ++ t)
-    (append-assoc (listBytes (s .heard)) (listBytes (s .candidates) ++ listBytes (s .echoes)) (zerosFrom reservedAt)
-    ∙ ap (λ (t : List ℕ). listBytes (s .heard) ++ t) (append-assoc (listBytes (s .candidates)) (listBytes (s .echoes)) (zerosFrom reservedAt))) in
-    ap (drop reservedAt) (sym joined) ∙ drop-at (headBytes s ++ l) (zerosFrom reservedAt) reservedAt size
 
 zeros-from : (at : ℕ) → zeros (zerosFrom at) ≡ true
 unfolding zerosFrom

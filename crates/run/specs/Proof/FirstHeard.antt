@@ -125,18 +125,18 @@ heard-after s (k ∷ ks) h x =
     let later : Brought x ks → Brought x (k ∷ ks) = λ b. (b .0, List·Memᴰ·tail (b .1), b .2, b .3) in
     elim (ℕ-discrete (k .answer .refusal) 0) [
       | yes w ↦ (
-          λ i. elim (rest .0 i) [
-            | inl j ↦ elim (call-heard k w x .0 j) [ inl m ↦ inr (k, List·Memᴰ·head refl, w, m) | inr m ↦ inl (back m) ]
-            | inr b ↦ inr (later b)
-          ],
-          λ e. rest .1 (elim e [
-            | inl i ↦ inl (call-heard k w x .1 (inr (there i)))
-            | inr b ↦ elim (List·Memᴰ·cases-cons (b .1)) [
-              | inl q ↦ inl (call-heard k w x .1 (inl (subst (λ (l : TrayCall). In x (senders (entries (l .tray)))) q (b .3))))
-              | inr j ↦ inr (b .0, j, b .2, b .3)
-            ]
-          ]),
-        )
+        λ i. elim (rest .0 i) [
+          | inl j ↦ elim (call-heard k w x .0 j) [ inl m ↦ inr (k, List·Memᴰ·head refl, w, m) | inr m ↦ inl (back m) ]
+          | inr b ↦ inr (later b)
+        ],
+        λ e. rest .1 (elim e [
+          | inl i ↦ inl (call-heard k w x .1 (inr (there i)))
+          | inr b ↦ elim (List·Memᴰ·cases-cons (b .1)) [
+            | inl q ↦ inl (call-heard k w x .1 (inl (subst (λ (l : TrayCall). In x (senders (entries (l .tray)))) q (b .3))))
+            | inr j ↦ inr (b .0, j, b .2, b .3)
+          ]
+        ]),
+      )
       | no refused ↦
           let same = refused-same k refused in (
             λ i. elim (rest .0 i) [ inl j ↦ inl (back (subst (λ u. In x (heard u)) same j)) | inr b ↦ inr (later b) ],

@@ -15,6 +15,12 @@ pub words-length : (s : List ℕ) (at n : ℕ) → length (wordsAt s at n) ≡ n
 words-length s at zero = refl
 words-length s at (suc n) = ap suc (words-length s (at + 4) n)
 
+-- the number at a place
+pub words-at : (s : List ℕ) (at n i d : ℕ) → i < n → getD (wordsAt s at n) i d ≡ wordAt s (at + 4 * i)
+words-at s at zero i d h = absurd (omega arith)
+words-at s at (suc n) zero d h = let e : at + 4 * 0 ≡ at = omega arith in rw e
+words-at s at (suc n) (suc i) d h = let e : at + 4 * suc i ≡ at + 4 + 4 * i = omega arith in rw e (words-at s (at + 4) n i d (omega arith))
+
 -- one step along the numbers from b on, as a loop over them takes it
 pub words-step : (s : List ℕ) (b i n : ℕ) → i < n → wordsAt s (b + 4 * i) (n - i) ≡ wordAt s (b + 4 * i) ∷ wordsAt s (b + 4 * (i + 1)) (n - (i + 1))
 words-step s b i n h =

@@ -14,7 +14,7 @@ use lib.Seq.{ext-getD, getD-take, length-take-le}
 use Rattle.wire.specs.Limits.{numberWidth}
 use Rattle.wire.specs.Laws.Words.{words-length}
 use Rattle.wire.specs.Words.{wordAt, wordsAt}
-use Rattle.controller.specs.Laws.Work.Opened.{words-at}
+use Rattle.wire.specs.Laws.Words.{words-at}
 use Rattle.controller.proofs.opened.same_list.Statement.{statement}
 use Rattle.controller.proofs.opened.same_list.Tie as tie
 

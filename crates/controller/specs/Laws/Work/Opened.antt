@@ -14,7 +14,7 @@ use lib.Seq.{length-take-le, getD-set-same, getD-set-other}
 use Rattle.wire.specs.Frame.{kindOf, maxCount}
 use Rattle.wire.specs.Laws.Words.{words-length, words-below}
 use Rattle.wire.specs.Limits.{maxNumbers}
-use Rattle.wire.specs.Words.{wordAt, wordsAt, Below}
+use Rattle.wire.specs.Words.{wordsAt, Below}
 use Rattle.controller.specs.Lists.{In, mem, countIf, Rising}
 use Rattle.controller.specs.Fields.{stateOf}
 use Rattle.controller.specs.Received.{ReceivedLists, frameOf, receive, lists}
@@ -35,11 +35,6 @@ pub getD-inside : (l : List ℕ) (i d e : ℕ) → i < length l → getD l i d �
 getD-inside [] i d e h = absurd (omega arith)
 getD-inside (x ∷ l) zero d e h = refl
 getD-inside (x ∷ l) (suc i) d e h = getD-inside l i d e (omega arith)
-
-pub words-at : (s : List ℕ) (at n i d : ℕ) → i < n → getD (wordsAt s at n) i d ≡ wordAt s (at + 4 * i)
-words-at s at zero i d h = absurd (omega arith)
-words-at s at (suc n) zero d h = let e : at + 4 * 0 ≡ at = omega arith in rw e
-words-at s at (suc n) (suc i) d h = let e : at + 4 * suc i ≡ at + 4 + 4 * i = omega arith in rw e (words-at s (at + 4) n i d (omega arith))
 
 pub list-from-length : (own b : List ℕ) (j start count : ℕ) → Lies own b j start count → length (listFrom own b j start count) ≡ count
 list-from-length own b j start count lies = pick (eqb j 0) refl

@@ -9,7 +9,7 @@ use lib.ListN.{length}
 use lib.Seq.{sets}
 use Rattle.controller.specs.Fields.{stateOf}
 use Rattle.controller.specs.declared.state.State.{State}
-use Rattle.controller_c.specs.Image.{imageBytes, heardAt, candidatesAt, echoesAt, reservedAt, headBytes, listBytes, zerosFrom, laidOut}
+use Rattle.controller_c.specs.Image.{imageBytes, heardAt, candidatesAt, echoesAt, sinceAt, reservedAt, headBytes, listBytes, zerosFrom, laidOut}
 use Rattle.controller_c.specs.Laws.Image.{SizedLists, sound-sized, list-bytes-length, laid-out-length}
 use Rattle.controller_c.proofs.Stores.{join-at, sets-whole}
 use Rattle.controller_c.proofs.image.lay_out.Statement.{statement}
@@ -18,18 +18,21 @@ use Rattle.controller_c.proofs.image.lay_out.Tie as tie
 laid : (s : State) (b : List ℕ) → SizedLists s → length b ≡ imageBytes
     → let two = sets (sets b 0 (headBytes s)) heardAt (listBytes (s .heard)) in
     let four = sets (sets two candidatesAt (listBytes (s .candidates))) echoesAt (listBytes (s .echoes)) in
-    sets four reservedAt (zerosFrom reservedAt) ≡ laidOut s
+    sets (sets four sinceAt (s .since)) reservedAt (zerosFrom reservedAt) ≡ laidOut s
 unfolding laidOut
 laid s b z n =
     let heard = list-bytes-length (s .heard) (z .heard) in
     let candidates = list-bytes-length (s .candidates) (z .candidates) in
     let echoes = list-bytes-length (s .echoes) (z .echoes) in
-    let third = zerosFrom reservedAt in
+    let since = z .since in
+    let third = s .since ++ zerosFrom reservedAt in
     let second = listBytes (s .echoes) ++ third in
     let first = listBytes (s .candidates) ++ second in
     let one = sets b 0 (headBytes s) in
     let two = sets one heardAt (listBytes (s .heard)) in
-    join-at (sets two candidatesAt (listBytes (s .candidates))) echoesAt reservedAt (listBytes (s .echoes)) third (omega arith)
+    let three = sets two candidatesAt (listBytes (s .candidates)) in
+    join-at (sets three echoesAt (listBytes (s .echoes))) sinceAt reservedAt (s .since) (zerosFrom reservedAt) (omega arith)
+    ∙ join-at three echoesAt sinceAt (listBytes (s .echoes)) third (omega arith)
     ∙ join-at two candidatesAt echoesAt (listBytes (s .candidates)) second (omega arith)
     ∙ join-at one heardAt candidatesAt (listBytes (s .heard)) first (omega arith)
     ∙ join-at b 0 heardAt (headBytes s) (listBytes (s .heard) ++ first) (omega arith)

@@ -2,7 +2,7 @@
 use borrow.Author.Needs.{needs}
 use denote.Ref.{now}
 use lib.ListN.{getD}
-use Rattle.controller_c.specs.Image.{ownBitAt, saidAt, strongAt, decisionAt}
+use Rattle.controller_c.specs.Image.{ownBitAt, saidAt, strongAt, decisionAt, roundsAt}
 use Rattle.controller_c.proofs.image.take_apart.Statement.{statement}
 use Rattle.controller_c.proofs.image.take_apart.Tie as tie
 
@@ -58,6 +58,7 @@ returns c =
       heard = heard .take-list .ensures i;
       candidates = candidates .take-list2 .ensures i;
       echoes = echoes .take-list3 .ensures i;
+      since = roundsAt b;
     }
 
 pub take-apart-spec : {M : Type 1} → statement M
