@@ -10,10 +10,10 @@ use Rattle.controller_c.proofs.controller_start.Tie as tie
 
 -- the call of `start`, and its answer in parts
 abbrev started : tie.After-fields-of → tie.After-start
-started c = c .before .before .before .before .before .before .before
+started c = c .before .before .before .before .before .before .before .before
 
 abbrev parts : tie.After-hand-over-arg5 → tie.After-fields-of
-parts c = c .before .before .before .before .before .before .before .before
+parts c = c .before .before .before .before .before .before .before .before .before
 
 start-requires : tie.Need-start-requires
 start-requires c κs = search needs

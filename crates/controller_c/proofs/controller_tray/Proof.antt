@@ -4,12 +4,13 @@ use borrow.Author.Needs.{needs}
 use Prim.Native.Nat.{ℕ}
 use mathlib.Core.Bool.{true}
 use mathlib.Core.List.{List}
-use mathlib.Core.Path.{_≡_, refl, sym, _∙_}
+use mathlib.Core.Path.{_≡_, refl, sym, ap, _∙_}
 use denote.Ref.{now}
 use Rattle.controller.specs.Calls.{TrayPromise}
+use Rattle.controller.specs.Fields.{wholeOf}
 use Rattle.controller.specs.declared.state.Answer.{Answer}
 use Rattle.controller.specs.declared.state.State.{State}
-use Rattle.controller_c.specs.Image.{shaped}
+use Rattle.controller_c.specs.Image.{takenApart, shaped}
 use Rattle.controller_c.specs.Laws.Calls.{shaped-refusal, unshaped-refusal, tray-makes}
 use Rattle.controller_c.specs.Laws.Image.{shaped-length}
 use Rattle.controller_c.proofs.Promises.{made-sound, promise-handed, image-refused}
@@ -20,18 +21,30 @@ use Rattle.controller_c.proofs.controller_tray.Tie as tie
 joined : (s d : State) (t before : List ℕ) (a : Answer) (after : List ℕ) → s ≡ d → TrayPromise s t before a after → TrayPromise d t before a after
 joined s d t before a after e p = rw e at p
 
--- what was given; a shaped image, and its parts; the call of `work`
+-- what was given; a shaped image, its record and its other parts; the call of `work`
 abbrev given : tie.After-slice-known2 → tie.Start
 given c = c .before .before .before
 
-abbrev fits : tie.After-candidates → tie.Then1
-fits c = c .before .before .before
+abbrev fits : tie.After-take-rounds → tie.Then1
+fits c = c .before .before
 
-abbrev parts : tie.After-echoes2 → tie.After-take-apart
-parts c = c .before .before .before
+abbrev rounds : tie.After-echoes → tie.After-take-rounds
+rounds c = c .before .before .before .before
+
+abbrev parts : tie.After-work-arg → tie.After-take-apart
+parts c = c .before .before .before .before .before
 
 abbrev worked : tie.After-hand-over-arg2 → tie.After-work
-worked c = c .before .before .before .before .before .before .before
+worked c = c .before .before .before .before .before .before .before .before
+
+-- the state in parts is the one in the image
+whole : (c : tie.After-work-arg)
+    → let t = parts c .take-apart in
+    wholeOf (t .result) (t .last .1 .0) (t .last .1 .1 .0) (t .last .1 .1 .1 .0) (rounds (parts c .before) .take-rounds .result)
+    ≡ takenApart (now (given (fits (rounds (parts c .before)) .before .before .before) .args .image))
+whole c =
+    let t = parts c .take-apart in
+    ap (wholeOf (t .result) (t .last .1 .0) (t .last .1 .1 .0) (t .last .1 .1 .1 .0)) (rounds (parts c .before) .take-rounds .ensures) ∙ t .ensures
 
 passed : (c : tie.Then1) → shaped (now (given (c .before .before .before) .args .image)) ≡ true
 passed c = sym (c .before .is-shaped .ensures) ∙ c .if1 .taken
@@ -39,8 +52,11 @@ passed c = sym (c .before .is-shaped .ensures) ∙ c .if1 .taken
 is-shaped-requires : tie.Need-is-shaped-requires
 is-shaped-requires c κs = search needs
 
+take-rounds-requires : tie.Need-take-rounds-requires
+take-rounds-requires c κs = shaped-length _ (passed (c .before))
+
 take-apart-requires : tie.Need-take-apart-requires
-take-apart-requires c κs = (shaped-length _ (passed (fits (c .before))), refl, refl, refl)
+take-apart-requires c κs = (shaped-length _ (passed (fits (rounds c))), refl, refl, refl)
 
 work-requires : tie.Need-work-requires
 work-requires c κs = search needs
@@ -48,9 +64,8 @@ work-requires c κs = search needs
 hand-over-requires : tie.Need-hand-over-requires
 hand-over-requires c κs =
     let done = worked c in
-    let apart = parts (done .before .before) in
     record {
-      whole = shaped-length _ (passed (fits (apart .before .before)));
+      whole = shaped-length _ (passed (fits (rounds (parts (done .before) .before))));
       made = made-sound _ _ _ _ _ _ _ (done .work .ensures) (tray-makes _ _ _);
     }
 
@@ -67,10 +82,9 @@ returns : tie.Need-returns
 returns c =
     let handed = c .before .before in
     let done = worked (handed .before) in
-    let apart = parts (done .before .before) in
-    let shaped = fits (apart .before .before) in
+    let shaped = fits (rounds (parts (done .before) .before)) in
     let t = now (given (shaped .before .before .before) .args .tray) in
-    promise-handed _ _ _ _ _ _ _ (joined _ _ t _ _ _ (apart .take-apart .ensures) (done .work .ensures)) _ _ _ _ _
+    promise-handed _ _ _ _ _ _ _ (joined _ _ t _ _ _ (whole (done .before)) (done .work .ensures)) _ _ _ _ _
     (shaped-refusal _ _ _ (passed shaped))
     (handed .hand-over .ensures)
 
@@ -87,6 +101,7 @@ controller-tray-spec =
     tie.close
     (tie.spec
     is-shaped-requires
+    take-rounds-requires
     take-apart-requires
     work-requires
     hand-over-requires

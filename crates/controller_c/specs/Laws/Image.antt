@@ -13,15 +13,20 @@ use native.Mathlib.Nat.{zero-add, add-zero, suc-add, add-assoc}
 use native.Mathlib.Omega.{arith}
 use borrow.Author.Tests.{eqb-true, eq-eqb}
 use lib.Dec.{eqb}
-use lib.ListN.{length, getD, take, drop, replicate, length-append, length-drop, length-replicate, take-append-drop}
+use lib.ListN.{List·getD-eq-default}
+use lib.ListN.{length, getD, take, drop, replicate, length-append, length-drop, length-replicate, length-take, take-append-drop}
 use lib.Seq.{slice, take-all, take-at, drop-at, drop-append-le, length-take-le, getD-take, getD-drop}
 use Rattle.wire.specs.Limits.{maxNumbers, numberWidth}
 use Rattle.wire.specs.Numbers.{listed}
 use Rattle.wire.specs.Words.{wordAt, wordBytes, wordsAt, wordsBytes, Below}
-use Rattle.wire.specs.Laws.Words.{word-back, words-behind, byte-drop, word-drop, words-drop}
+use Rattle.wire.specs.Laws.Words.{word-back, words-at, words-behind, byte-drop, word-drop, words-drop}
 use Rattle.wire.specs.declared.frame.Numbers.{Numbers}
-use Rattle.controller.specs.State.{soundList, soundRules, sound}
-use Rattle.controller.specs.Laws.State.{sound-list-gives, sound-list-test, rules-give, rules-stored, sound-rules, since-places}
+use Rattle.controller.specs.Fields.{wholeOf, stateOf}
+use Rattle.controller.specs.State.{firstRounds, soundList, soundRules, sound}
+use Rattle.controller.specs.Laws.State.{ListTests, sound-list-gives, sound-list-test, rules-give, rules-heard, rules-stored}
+use Rattle.controller.specs.Laws.State.{sound-rules, sound-beside, since-places}
+use Rattle.controller.specs.Laws.First.{beside-gives}
+use Rattle.controller.specs.declared.state.Fields.{Fields}
 use Rattle.controller.specs.declared.state.State.{State}
 use Rattle.controller_c.specs.Image.{imageBytes, heardAt, candidatesAt, echoesAt, sinceAt, reservedAt, countBytes, listWidth, headBytes, listBytes}
 use Rattle.controller_c.specs.Image.{zerosFrom, laidOut, placesAt, listAt, roundsAt, takenApart, zeros, shaped, soundImage}
@@ -68,6 +73,11 @@ sound-lists s h =
       candidates = ap (λ (t : State). soundList (t .candidates)) (sym e) ∙ sound-list-test (listed (s .candidates)) (g .candidates);
       echoes = ap (λ (t : State). soundList (t .echoes)) (sym e) ∙ sound-list-test (listed (s .echoes)) (g .echoes);
     }
+
+-- document 01's rules do not read the record
+pub rules-alone : (f : Fields) (h c e p : List ℕ) → soundRules (wholeOf f h c e p) ≡ true → soundRules (stateOf f h c e) ≡ true
+unfolding soundRules
+rules-alone f h c e p t = t
 
 pub sound-sized : (s : State) → sound s ≡ true → SizedLists s
 sound-sized s h =
@@ -176,6 +186,51 @@ sound-image-gives b h =
     let e = and-eq-true-iff (shaped b) (sound (takenApart b)) .0 h in
     let t = shaped-gives b (e .0) in
     record { whole = t .0; reserved = t .1; state = e .1 }
+
+-- ---- what the calls that show a state read
+
+-- behind a list there are only zeros
+padded-at : (l : List ℕ) (k i : ℕ) → getD (l ++ replicate k 0) i 0 ≡ getD l i 0
+padded-at [] zero i = refl
+padded-at [] (suc k) zero = refl
+padded-at [] (suc k) (suc i) = padded-at [] k i
+padded-at (x ∷ l) k zero = refl
+padded-at (x ∷ l) k (suc i) = padded-at l k i
+
+module _ (b : List ℕ) (h : soundImage b ≡ true) where
+  state-sound : sound (takenApart b) ≡ true
+  state-sound = sound-image-gives b h .state
+
+  abbrev heard : Numbers
+  heard = listAt b heardAt
+
+  abbrev rounds : List ℕ
+  rounds = firstRounds (takenApart b)
+
+  heard-tests : ListTests heard
+  heard-tests = sound-list-gives heard (rules-heard (takenApart b) (sound-rules (takenApart b) state-sound))
+
+  -- the number at place i of heard, and the round beside it
+  pub number-read : (i : ℕ) → i < maxNumbers → wordAt b (heardAt + countBytes + numberWidth * i) ≡ getD (listed heard) i 0
+  unfolding placesAt
+  number-read i l =
+      sym (words-at b (heardAt + countBytes) maxNumbers i 0 l)
+      ∙ ap (λ (n : Numbers). getD (n .at) i 0) (sym (heard-tests .back))
+      ∙ padded-at (listed heard) (maxNumbers - length (listed heard)) i
+
+  pub round-read : (i : ℕ) → i < maxNumbers → getD b (sinceAt + i) 0 ≡ getD rounds i 0
+  unfolding roundsAt
+  round-read i l =
+      sym (getD-drop sinceAt (take reservedAt b) i 0 ∙ getD-take reservedAt b (sinceAt + i) 0 (omega arith))
+      ∙ ap (λ (w : List ℕ). getD w i 0) (sym (beside-gives (wordAt b 0) (listed heard) (roundsAt b) (sound-beside (takenApart b) state-sound) .1))
+      ∙ padded-at rounds (maxNumbers - length rounds) i
+
+  -- past the places there is none
+  pub number-past : (i : ℕ) → maxNumbers ≤ i → getD (listed heard) i 0 ≡ 0
+  number-past i l = List·getD-eq-default (listed heard) 0 {n = i} (omega (arith, heard-tests .list .short))
+
+  pub round-past : (i : ℕ) → maxNumbers ≤ i → getD rounds i 0 ≡ 0
+  round-past i l = List·getD-eq-default rounds 0 {n = i} (omega (arith, heard-tests .list .short, length-take (length (listed heard)) (roundsAt b)))
 
 -- ---- laid out, then taken apart
 

@@ -7,10 +7,11 @@ use denote.Ref.{now}
 use native.Mathlib.Omega.{arith}
 use lib.ListN.{length}
 use lib.Seq.{sets}
-use Rattle.controller.specs.Fields.{stateOf}
+use Rattle.controller.specs.Fields.{wholeOf}
+use Rattle.controller.specs.Laws.State.{sound-rules, since-places}
 use Rattle.controller.specs.declared.state.State.{State}
 use Rattle.controller_c.specs.Image.{imageBytes, heardAt, candidatesAt, echoesAt, sinceAt, reservedAt, headBytes, listBytes, zerosFrom, laidOut}
-use Rattle.controller_c.specs.Laws.Image.{SizedLists, sound-sized, list-bytes-length, laid-out-length}
+use Rattle.controller_c.specs.Laws.Image.{SizedLists, sound-sized, rules-alone, list-bytes-length, laid-out-length}
 use Rattle.controller_c.proofs.Stores.{join-at, sets-whole}
 use Rattle.controller_c.proofs.image.lay_out.Statement.{statement}
 use Rattle.controller_c.proofs.image.lay_out.Tie as tie
@@ -42,7 +43,17 @@ put-head-requires : tie.Need-put-head-requires
 put-head-requires c κs = search needs
 
 put-lists-requires : tie.Need-put-lists-requires
-put-lists-requires c κs = search needs
+put-lists-requires c κs =
+    let start = c .before .before .before .before .before .before in
+    let a = start .args in
+    let s = wholeOf (a .fields) (now (a .heard)) (now (a .candidates)) (now (a .echoes)) (now (a .since)) in
+    (rules-alone (a .fields) (now (a .heard)) (now (a .candidates)) (now (a .echoes)) (now (a .since)) (sound-rules s (start .pre .0)), search needs)
+
+put-rounds-requires : tie.Need-put-rounds-requires
+put-rounds-requires c κs =
+    let start = c .before .before .before .before .before .before .before .before .before .before in
+    let a = start .args in
+    (since-places (wholeOf (a .fields) (now (a .heard)) (now (a .candidates)) (now (a .echoes)) (now (a .since))) (start .pre .0), search needs)
 
 clear-requires : tie.Need-clear-requires
 clear-requires c κs = search needs
@@ -54,15 +65,16 @@ returns : tie.Need-returns
 unfolding zerosFrom
 returns c =
     let asked = c .before .before .before in
-    let lists = asked .before .before .before in
+    let rounds = asked .before .before .before in
+    let lists = rounds .before .before .before .before in
     let after-head = lists .before in
     let head = after-head .before .before .before in
     let start = head .before .before .before in
     let a = start .args in
-    let s = stateOf (a .fields) (now (a .heard)) (now (a .candidates)) (now (a .echoes)) in
+    let s = wholeOf (a .fields) (now (a .heard)) (now (a .candidates)) (now (a .echoes)) (now (a .since)) in
     c .before .before .clear .ensures
-    ∙ rw (lists .put-lists .ensures, head .put-head .ensures) (laid s (now (a .image)) (sound-sized s (start .pre .0)) (start .pre .1))
+    ∙ rw (rounds .put-rounds .ensures, lists .put-lists .ensures, head .put-head .ensures) (laid s (now (a .image)) (sound-sized s (start .pre .0)) (start .pre .1))
 
 pub lay-out-spec : {M : Type 1} → statement M
 lay-out-spec =
-    tie.close (tie.spec put-head-requires put-lists-requires clear-requires same-length returns)
+    tie.close (tie.spec put-head-requires put-lists-requires put-rounds-requires clear-requires same-length returns)
