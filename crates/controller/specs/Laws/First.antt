@@ -1,24 +1,23 @@
 -- Laws of when each number was first heard: a record says the same of a number once it is heard, and what is sound stays sound.
-use Prim.Native.Nat.{ℕ, _+_, _-_, _≤_, _<_}
-use mathlib.Core.Bool.{Bool, true, false, cond, _&&_, true≢false, and-eq-true-iff}
-use mathlib.Core.List.{List, [], _∷_, _++_, map, List·Memᴰ·head, List·Memᴰ·tail, List·Memᴰ·cases-cons, List·Memᴰ·not-nil}
+use Prim.Native.Nat.{ℕ, _-_, _≤_, _<_}
+use mathlib.Core.Bool.{Bool, true, false, cond, true≢false, and-eq-true-iff}
+use mathlib.Core.List.{List, [], _∷_, map, List·Memᴰ·head, List·Memᴰ·tail, List·Memᴰ·cases-cons, List·Memᴰ·not-nil}
 use mathlib.Core.Logic.{inl, inr, _≢_}
-use mathlib.Core.Path.{_≡_, refl, sym, ap, _∙_}
+use mathlib.Core.Path.{_≡_, refl, sym, _∙_}
 use native.Mathlib.Decide.{ℕ-discrete}
 use native.Mathlib.Omega.{arith}
-use borrow.Author.Tests.{eqb-true, eq-eqb, ne-eqb, le-leb, lt-ltb}
-use lib.Dec.{leb, ltb, eqb}
+use borrow.Author.Tests.{eq-eqb, ne-eqb, le-leb, lt-ltb}
 use lib.ListN.{length, take, length-map}
 use Rattle.wire.specs.Laws.Numbers.{listed-stored}
-use Rattle.wire.specs.Limits.{maxNumbers, lastRound}
-use Rattle.wire.specs.Numbers.{stored, listed}
+use Rattle.wire.specs.Limits.{lastRound}
+use Rattle.wire.specs.Numbers.{listed}
 use Rattle.wire.specs.Tray.{Entry, entries}
 use Rattle.controller.specs.First.{firstOf, firstIn, firstsAfter, roundsAfter}
-use Rattle.controller.specs.Laws.Lists.{in-mem, mem-in, out-mem, in-or-not}
+use Rattle.controller.specs.Laws.Lists.{in-mem, out-mem, in-or-not}
 use Rattle.controller.specs.Laws.Received.{heard-in}
 use Rattle.controller.specs.Laws.Refusals.{Fits}
 use Rattle.controller.specs.Laws.Rules.{next-sound, step-heard, step-own}
-use Rattle.controller.specs.Laws.State.{Sound, same-gives, same-test, sound-gives, sound-beside, sound-both, rules-test, start-sound}
+use Rattle.controller.specs.Laws.State.{Sound, same-gives, same-test, sound-gives, sound-beside, sound-both, start-sound}
 use Rattle.controller.specs.Lists.{In, mem}
 use Rattle.controller.specs.Received.{senders, receive}
 use Rattle.controller.specs.Rules.{next}

@@ -5,12 +5,13 @@ use mathlib.Core.Bool.{Bool, true, false, not, cond, true≢false, and-eq-true-i
 use mathlib.Core.Logic.{_⊎_, inl, inr, _≢_, _↔_}
 use mathlib.Core.List.{List, [], _∷_, _++_, List·Memᴰ·head, List·Memᴰ·tail, List·Memᴰ·cases-cons, List·Memᴰ·not-nil, Memᴰ·cast, Memᴰ·append-left}
 use native.Mathlib.Nat.{add-zero}
+use native.Mathlib.Numerals.{add-one}
 use native.Mathlib.Omega.{arith}
 use native.Mathlib.Decide.{ℕ-discrete}
 use borrow.Author.Tests.{eqb-true, eqb-false, ltb-true, ltb-false, eq-eqb, lt-ltb, le-ltb}
 use lib.Dec.{eqb, ltb}
-use lib.ListN.{length, getD, drop}
-use lib.Seq.{drop-cons}
+use lib.ListN.{length, getD, take, drop}
+use lib.Seq.{take-suc, drop-cons}
 use Rattle.wire.specs.Numbers.{rising}
 use Rattle.controller.specs.Lists.{In, Inside, mem, countIf, keep, insert, insertAll, NoRepeats, Rising}
 
@@ -121,6 +122,10 @@ count-append f [] m = omega arith
 count-append f (x ∷ l) m = let rest = count-append f l m in elim (true-or-false (f x)) [ inl t ↦ rw t (omega arith) | inr t ↦ rw t rest ]
 
 -- where one fails the test, fewer than all pass it
+-- one number more
+pub count-further : (f : ℕ → Bool) (l : List ℕ) (j : ℕ) → j < length l → countIf f (take (j + 1) l) ≡ countIf f (take j l) + cond (f (getD l j 0)) 1 0
+count-further f l j h = rw (add-one j, take-suc l j 0, count-append)
+
 pub count-short : (f : ℕ → Bool) (k : ℕ) {l : List ℕ} → In k l → f k ≡ false → countIf f l < length l
 count-short f k {l} i t = omega (arith, count-split f l, (without i) .fewer (λ x. not (f x)) (ap not t))
 

@@ -1,6 +1,5 @@
 -- `controller_c::controller_heard_number` meets its contract: behind the numbers of a sound image's heard there are only zeros.
 use Prim.Native.Nat.{ℕ, _+_, _*_, _<_, _≤_}
-use mathlib.Core.Bool.{true, false}
 use mathlib.Core.List.{List}
 use mathlib.Core.Logic.{inl, inr}
 use mathlib.Core.Path.{_≡_, sym, _∙_}

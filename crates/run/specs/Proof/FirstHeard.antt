@@ -2,23 +2,22 @@
 -- records who is new.
 --     first-heard    the theorem
 use Prim.Native.Nat.{ℕ}
-use mathlib.Core.Bool.{true, false, cond, _&&_, and-false}
-use mathlib.Core.List.{List, [], _∷_, _++_, append-assoc, List·Memᴰ·head, List·Memᴰ·tail, List·Memᴰ·cases-cons, List·Memᴰ·not-nil, List·Memᴰ·eq-of-singleton, Memᴰ·append-left}
+use mathlib.Core.Bool.{and-false}
+use mathlib.Core.List.{List, [], _∷_, _++_, List·Memᴰ·head, List·Memᴰ·tail, List·Memᴰ·cases-cons, List·Memᴰ·not-nil, List·Memᴰ·eq-of-singleton, Memᴰ·append-left}
 use mathlib.Core.Logic.{_⊎_, inl, inr, _≢_, _↔_}
 use mathlib.Core.Path.{_≡_, refl, sym, ap, _∙_, subst}
 use native.Mathlib.Decide.{ℕ-discrete}
 use borrow.Author.Tests.{eq-eqb, ne-eqb}
-use lib.Dec.{eqb}
 use lib.ListN.{length}
 use Rattle.controller.specs.Bytes.{roundOf, entries}
-use Rattle.controller.specs.First.{firstIn, firstOf, firstsAfter, roundsAfter}
+use Rattle.controller.specs.First.{firstIn, firstOf, firstsAfter}
 use Rattle.controller.specs.Laws.First.{first-in-stored, first-kept, first-new, first-of-none, firsts-length}
 use Rattle.controller.specs.Laws.Lists.{in-or-not, in-mem, out-mem}
 use Rattle.controller.specs.Laws.Received.{heard-in}
 use Rattle.controller.specs.Laws.Rules.{step-heard}
-use Rattle.controller.specs.Lists.{In, mem}
-use Rattle.controller.specs.Received.{senders, receive}
-use Rattle.controller.specs.State.{View, view, firstRounds, startView}
+use Rattle.controller.specs.Lists.{In}
+use Rattle.controller.specs.Received.{senders}
+use Rattle.controller.specs.State.{View, view, firstRounds}
 use Rattle.controller.specs.declared.state.State.{State}
 use Rattle.run.specs.FirstHeard.{stateAfter, heard, Brought, firstBrought, FirstHeard}
 use Rattle.run.specs.Proof.Calls.{makes-view, receivedWith, madeBy, accepted-fits, accepted-makes, accepted-or-kept, start-returns, given-listed, state-own}

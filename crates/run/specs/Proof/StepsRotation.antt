@@ -6,14 +6,14 @@
 --     rotation S           the rotation; everybody works always, so the rules on quiet ones say nothing
 --     rotation-rules S K   it keeps the rules of a rotation
 use Prim.Native.Nat.{ℕ, zero, suc, _+_, _*_, _<_, _≤_}
-use mathlib.Core.Bool.{Bool, true, false, not, cond, _&&_, true≢false, and-true, and-false, and-eq-true-iff}
+use mathlib.Core.Bool.{Bool, true, false, not, cond, _&&_, true≢false, and-true, and-false}
 use mathlib.Core.List.{List, []}
 use mathlib.Core.Logic.{_⊎_, inl, inr, _↔_}
 use mathlib.Core.Option.{Option, some}
 use mathlib.Core.Path.{_≡_, refl, sym, ap, _∙_, subst}
 use native.Mathlib.Omega.{arith}
 use borrow.Author.Tests.{leb-true, le-leb, ne-eqb, not-true, not-false}
-use lib.Dec.{eqb, leb, ltb}
+use lib.Dec.{leb, ltb}
 use lib.ListN.{length, getD}
 use Rattle.controller.specs.Bytes.{Content, kindOf, maxCount}
 use Rattle.controller.specs.Lists.{In, Rising}

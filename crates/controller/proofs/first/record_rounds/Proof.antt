@@ -1,6 +1,6 @@
 -- `controller::first::record_rounds` meets its contract: after j turns the record is the old one, moved to beside the first j numbers.
 use Prim.Native.Nat.{ℕ, _+_, _-_, _≤_, _<_}
-use mathlib.Core.Bool.{true, false, cond}
+use mathlib.Core.Bool.{true, cond}
 use mathlib.Core.List.{List, [], _∷_, _++_, map}
 use mathlib.Core.Logic.{inl, inr}
 use mathlib.Core.Path.{_≡_, refl, sym, ap, _∙_}
@@ -15,9 +15,8 @@ use Rattle.wire.specs.Numbers.{listed}
 use Rattle.wire.specs.declared.frame.Numbers.{Numbers}
 use Rattle.controller.specs.Lists.{mem}
 use Rattle.controller.specs.State.{soundList}
-use Rattle.controller.specs.Laws.Lists.{true-or-false}
 use Rattle.controller.specs.Laws.State.{sound-list-gives}
-use Rattle.controller.specs.Laws.Work.Lists.{below-length}
+use Rattle.controller.specs.Laws.Work.Lists.{found-known, found-unknown}
 use Rattle.controller.specs.Laws.Work.Ready.{list-place}
 use Rattle.controller.specs.Work.First.{movedTo}
 use Rattle.controller.specs.Work.Lists.{inPlaces, below, absent, foundIn}
@@ -49,33 +48,23 @@ turn l all w t j h k =
 
 -- what is found of x in a sound list: it is there, and its place is one of 64; or it is not there
 module _ (n : Numbers) (sound : soundList n ≡ true) (x r : ℕ) (found : r ≡ foundIn x (listed n)) where
+  short : length (listed n) ≤ maxNumbers
+  short = sound-list-gives n sound .list .short
+
   known : r < absent → mem x (listed n) ≡ true
-  known h = elim (true-or-false (mem x (listed n))) [
-    | inl t ↦ t
-    | inr t ↦ let e : r ≡ absent + below x (listed n) = found ∙ rw t in absurd (omega arith)
-  ]
+  known = found-known x r (listed n) short found
 
   known-place : r < absent → r ≡ below x (listed n)
   known-place h = found ∙ rw (known h)
 
   place-small : r < absent → r < maxNumbers
-  place-small h =
-      let tests = sound-list-gives n sound in
-      omega (arith, known-place h, list-place n sound x (known h) .0, tests .used, tests .list .short)
-
-  unknown : absent ≤ r → mem x (listed n) ≡ false
-  unknown h = elim (true-or-false (mem x (listed n))) [
-    | inl t ↦
-        let e : r ≡ below x (listed n) = found ∙ rw t in
-        absurd (omega (arith, below-length x (listed n), sound-list-gives n sound .list .short))
-    | inr t ↦ t
-  ]
+  place-small h = omega (arith, known-place h, list-place n sound x (known h) .0, sound-list-gives n sound .used, short)
 
   old-round : (w : List ℕ) (t : ℕ) → r < absent → getD w r 0 ≡ roundOf (listed n) w t x
   old-round w t h = rw (known h, known-place h)
 
   new-round : (w : List ℕ) (t : ℕ) → absent ≤ r → t ≡ roundOf (listed n) w t x
-  new-round w t h = rw (unknown h)
+  new-round w t h = rw (found-unknown x r (listed n) short found h)
 
 abbrev Inv-loop : tie.InvT-loop
 Inv-loop heard len all count round since₀ numbers rounds₀ j₀ rounds j =

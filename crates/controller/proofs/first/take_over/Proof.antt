@@ -4,7 +4,7 @@ use Prim.Native.Nat.{ℕ, _≤_}
 use mathlib.Core.List.{List}
 use native.Mathlib.Omega.{arith}
 use denote.Ref.{now}
-use lib.ListN.{length, take}
+use lib.ListN.{length}
 use Rattle.wire.specs.Limits.{maxNumbers}
 use Rattle.wire.specs.Numbers.{listed}
 use Rattle.wire.specs.declared.frame.Numbers.{Numbers}

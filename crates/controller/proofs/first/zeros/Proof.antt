@@ -2,14 +2,13 @@
 use Prim.Native.Nat.{ℕ, _+_, _-_, _≤_, _<_}
 use mathlib.Core.Bool.{cond}
 use mathlib.Core.List.{List}
-use mathlib.Core.Path.{_≡_, refl, _∙_}
-use native.Mathlib.Numerals.{add-one}
+use mathlib.Core.Path.{_≡_, refl, sym, _∙_}
 use native.Mathlib.Omega.{arith}
 use borrow.Author.Needs.{needs}
 use denote.Ref.{now}
 use lib.ListN.{length, getD, take}
-use lib.Seq.{length-take-le, take-suc}
-use Rattle.controller.specs.Laws.Lists.{count-append, count-split}
+use lib.Seq.{length-take-le}
+use Rattle.controller.specs.Laws.Lists.{count-further, count-split}
 use Rattle.controller.specs.Lists.{countIf}
 use Rattle.controller.specs.Work.First.{isZero}
 use Rattle.controller.proofs.first.zeros.Statement.{statement}
@@ -24,7 +23,7 @@ abbrev μ-loop : tie.MeasureT-loop
 -- one turn: the place i, counted, is one of the first i + 1
 turn : (s : List ℕ) (i n one : ℕ) → i < length s → n ≡ countIf isZero (take i s) → one ≡ cond (isZero (getD s i 0)) 1 0
     → n + one ≡ countIf isZero (take (i + 1) s)
-turn s i n one h sum more = rw (sum, more, add-one i, take-suc s i 0, count-append)
+turn s i n one h sum more = rw (sum, more) (sym (count-further isZero s i h))
 
 -- of i places at most i are 0
 few : (s : List ℕ) (i : ℕ) → i ≤ length s → countIf isZero (take i s) ≤ i

@@ -3,14 +3,13 @@ use Prim.Native.Nat.{ℕ, _+_, _-_, _≤_, _<_}
 use mathlib.Core.Bool.{Bool, true, false, cond}
 use mathlib.Core.List.{List}
 use mathlib.Core.Path.{_≡_, refl, sym, ap, _∙_}
-use native.Mathlib.Numerals.{add-one}
 use native.Mathlib.Omega.{arith}
 use borrow.Author.Needs.{needs}
 use lib.Dec.{eqb}
-use lib.ListN.{length, getD, take}
-use lib.Seq.{take-suc, take-all}
+use lib.ListN.{getD, take}
+use lib.Seq.{take-all}
 use Rattle.controller.specs.Fields.{stateOf}
-use Rattle.controller.specs.Laws.Lists.{count-append}
+use Rattle.controller.specs.Laws.Lists.{count-further}
 use Rattle.controller.specs.Laws.Work.Ready.{ready-listed, ready-used, ready-says}
 use Rattle.controller.specs.Lists.{countIf}
 use Rattle.controller.specs.Received.{says}
@@ -30,9 +29,6 @@ counted s b bit x = says (kindOf (s .round)) bit ((receivedBy s b) .from x)
 abbrev total : State → List ℕ → ℕ → ℕ → ℕ
 total s b bit j = countIf (counted s b bit) (take j (listed (s .heard)))
 
-further : (f : ℕ → Bool) (l : List ℕ) (j : ℕ) → j < length l → countIf f (take (j + 1) l) ≡ countIf f (take j l) + cond (f (getD l j 0)) 1 0
-further f l j h = rw (add-one j, take-suc l j 0, count-append)
-
 module _ {s : State} {b f : List ℕ} (ready : Ready s b f) (bit j n : ℕ) (sum : n ≡ total s b bit j) where
   -- one turn: the bit d that is read at place j, counted
   turn : (d one : ℕ) → bit < 3 → j < s .heard .len
@@ -41,7 +37,7 @@ module _ {s : State} {b f : List ℕ} (ready : Ready s b f) (bit j n : ℕ) (sum
   turn d one l h read asked =
       let more : one ≡ cond (counted s b bit (getD (listed (s .heard)) j 0)) 1 0 =
       asked ∙ ap (λ (t : Bool). cond t 1 0) (ap (λ (i : ℕ). eqb i bit) read ∙ ready-says ready j bit h l) in
-      rw (sum, more) (sym (further (counted s b bit) (listed (s .heard)) j (omega (arith, h, ready-used ready))))
+      rw (sum, more) (sym (count-further (counted s b bit) (listed (s .heard)) j (omega (arith, h, ready-used ready))))
 
   -- the last turn has counted all of them
   ended : s .heard .len ≤ j → n ≡ countIf (counted s b bit) ((receivedBy s b) .heard)

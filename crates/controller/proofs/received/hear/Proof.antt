@@ -14,11 +14,11 @@ use Rattle.wire.specs.Numbers.{stored, listed}
 use Rattle.wire.specs.Tray.{entryCount, wordOf, sender, place}
 use Rattle.wire.specs.Words.{Below}
 use Rattle.wire.specs.declared.frame.Numbers.{Numbers}
-use Rattle.controller.specs.Lists.{In, mem}
-use Rattle.controller.specs.Laws.Lists.{true-or-false, mem-in, mem-out}
+use Rattle.controller.specs.Lists.{In}
+use Rattle.controller.specs.Laws.Lists.{mem-in, mem-out}
 use Rattle.controller.specs.Laws.State.{ListTests, sound-list-gives}
 use Rattle.controller.specs.Laws.Work.Hears.{HearsFrom, hears-none, known-short, hears-known, hears-new, hears-all, hears-own, hears-zero, hears-full}
-use Rattle.controller.specs.Laws.Work.Lists.{below-length}
+use Rattle.controller.specs.Laws.Work.Lists.{below-length, found-known, found-unknown, found-place}
 use Rattle.controller.specs.Work.Lists.{below, absent, foundIn, insertedAt, opened}
 use Rattle.controller.proofs.received.hear.Statement.{statement}
 use Rattle.controller.proofs.received.hear.Tie as tie
@@ -112,26 +112,6 @@ returns c =
 find-near-requires : tie.Need-find-near-requires Inv-loop μ-loop
 find-near-requires c κs = turn (c .before) .before .loop .inv .sound
 
--- what is found of a number in a list of at most 64: whether it is there, and its place
-module _ (x r : ℕ) (l : List ℕ) (short : length l ≤ maxNumbers) (found : r ≡ foundIn x l) where
-  found-known : r < absent → In x l
-  found-known h = elim (true-or-false (mem x l)) [
-    | inl t ↦ mem-in l t
-    | inr t ↦ let e : r ≡ absent + below x l = found ∙ rw t in absurd (omega arith)
-  ]
-
-  found-unknown : absent ≤ r → (In x l → ⊥)
-  found-unknown h = elim (true-or-false (mem x l)) [
-    | inl t ↦ let e : r ≡ below x l = found ∙ rw t in absurd (omega (arith, below-length x l))
-    | inr t ↦ mem-out l t
-  ]
-
-  found-place : r % absent ≡ below x l
-  found-place = elim (true-or-false (mem x l)) [
-    | inl t ↦ let e : r ≡ below x l = found ∙ rw t in omega (arith, below-length x l)
-    | inr t ↦ let e : r ≡ absent + below x l = found ∙ rw t in omega (arith, below-length x l)
-  ]
-
 -- the sender of a turn, those heard before it, and what is found of it
 abbrev who : tie.After-find-near Inv-loop μ-loop → ℕ
 who c = let at = asked c in sender (now (given (at .before) .args .tray)) (entry at)
@@ -143,10 +123,10 @@ sender-found : (c : tie.After-find-near Inv-loop μ-loop) → c .find-near .resu
 sender-found c = c .find-near .ensures ∙ ap (λ (x : ℕ). foundIn x (heard c)) (sender-read (other c .before))
 
 known : (c : tie.After-find-near Inv-loop μ-loop) → c .find-near .result < absent → In (who c) (heard c)
-known c = found-known (who c) _ (heard c) (tests (asked c .before) .list .short) (sender-found c)
+known c l = mem-in (heard c) (found-known (who c) _ (heard c) (tests (asked c .before) .list .short) (sender-found c) l)
 
 unknown : (c : tie.After-find-near Inv-loop μ-loop) → absent ≤ c .find-near .result → In (who c) (heard c) → ⊥
-unknown c = found-unknown (who c) _ (heard c) (tests (asked c .before) .list .short) (sender-found c)
+unknown c l = mem-out (heard c) (found-unknown (who c) _ (heard c) (tests (asked c .before) .list .short) (sender-found c) l)
 
 sender-place : (c : tie.After-find-near Inv-loop μ-loop) → c .find-near .result % absent ≡ below (who c) (heard c)
 sender-place c = found-place (who c) _ (heard c) (tests (asked c .before) .list .short) (sender-found c)

@@ -7,12 +7,11 @@ use lib.ListN.{getD}
 use Rattle.wire.specs.Numbers.{listed}
 use Rattle.controller.specs.Fields.{wholeOf}
 use Rattle.controller.specs.Laws.Lists.{mem-in, rising-place}
-use Rattle.controller.specs.Laws.State.{ListTests, sound-list-gives}
+use Rattle.controller.specs.Laws.State.{sound-list-gives}
 use Rattle.controller.specs.Laws.Work.Ready.{list-place}
 use Rattle.controller.specs.Laws.Work.Sound.{left, sound-parts, lists-sound-heard}
 use Rattle.controller.specs.Lists.{mem}
 use Rattle.controller.specs.State.{soundList, soundBeside, sound}
-use Rattle.controller.specs.Work.Sound.{listsSound}
 use Rattle.controller.specs.declared.state.State.{State}
 use Rattle.controller.proofs.sound.is_sound.Statement.{statement}
 use Rattle.controller.proofs.sound.is_sound.Tie as tie

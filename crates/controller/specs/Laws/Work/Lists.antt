@@ -1,7 +1,7 @@
 -- Laws of stored lists: the place of a number, a number put in at its place, and what the stored form is then.
-use Prim.Native.Nat.{ℕ, zero, suc, _+_, _-_, _≤_, _<_}
+use Prim.Native.Nat.{ℕ, zero, suc, _+_, _-_, _%_, _≤_, _<_}
 use mathlib.Core.Path.{_≡_, refl, sym, ap, _∙_}
-use mathlib.Core.Bool.{false}
+use mathlib.Core.Bool.{true, false}
 use mathlib.Core.Logic.{inl, inr, _≢_}
 use mathlib.Core.List.{List, [], _∷_, _++_, append-assoc, List·Memᴰ·head, List·Memᴰ·tail, Memᴰ·cast}
 use native.Mathlib.Numerals.{add-one}
@@ -15,7 +15,7 @@ use Rattle.wire.specs.Limits.{maxNumbers}
 use Rattle.wire.specs.Numbers.{stored, listed}
 use Rattle.wire.specs.declared.frame.Numbers.{Numbers}
 use Rattle.controller.specs.Lists.{In, mem, insert, Rising}
-use Rattle.controller.specs.Work.Lists.{below, insertedAt, opened}
+use Rattle.controller.specs.Work.Lists.{below, absent, foundIn, insertedAt, opened}
 use Rattle.controller.specs.Laws.Lists.{true-or-false, out-mem, getD-in, count-none, count-short, count-split, count-inside}
 use Rattle.controller.specs.Laws.Lists.{rising-no-repeats, rising-place, insert-in, mem-in, mem-out}
 
@@ -52,6 +52,26 @@ pub below-misses : (x : ℕ) (l : List ℕ) → length l ≤ below x l → mem x
 below-misses x l h = out-mem l (λ i. absurd (omega (arith, count-short (λ y. ltb y x) x i (le-ltb x x (omega arith)))))
 
 -- a greater number's place is not before it
+-- what is found of a number in a list of at most 64: whether it is there, and its place
+module _ (x r : ℕ) (l : List ℕ) (short : length l ≤ maxNumbers) (found : r ≡ foundIn x l) where
+  pub found-known : r < absent → mem x l ≡ true
+  found-known h = elim (true-or-false (mem x l)) [
+    | inl t ↦ t
+    | inr t ↦ let e : r ≡ absent + below x l = found ∙ rw t in absurd (omega arith)
+  ]
+
+  pub found-unknown : absent ≤ r → mem x l ≡ false
+  found-unknown h = elim (true-or-false (mem x l)) [
+    | inl t ↦ let e : r ≡ below x l = found ∙ rw t in absurd (omega (arith, below-length x l))
+    | inr t ↦ t
+  ]
+
+  pub found-place : r % absent ≡ below x l
+  found-place = elim (true-or-false (mem x l)) [
+    | inl t ↦ let e : r ≡ below x l = found ∙ rw t in omega (arith, below-length x l)
+    | inr t ↦ let e : r ≡ absent + below x l = found ∙ rw t in omega (arith, below-length x l)
+  ]
+
 pub below-more : (x y : ℕ) (l : List ℕ) → x ≤ y → below x l ≤ below y l
 below-more x y [] h = omega arith
 below-more x y (z ∷ l) h =

@@ -1,7 +1,7 @@
 -- Laws of the record as it is moved to beside those heard after a tray: its places are those that the rules' words give.
 use Prim.Native.Nat.{ℕ, zero, suc, _+_, _-_, _≤_, _<_}
-use mathlib.Core.Bool.{true, false, cond}
-use mathlib.Core.List.{List, [], _∷_, _++_, map, List·Memᴰ·head, List·Memᴰ·tail, List·Memᴰ·cases-cons, List·Memᴰ·not-nil}
+use mathlib.Core.Bool.{true, cond}
+use mathlib.Core.List.{List, [], _∷_, _++_, map, List·Memᴰ·cases-cons, List·Memᴰ·not-nil}
 use mathlib.Core.Logic.{inl, inr}
 use mathlib.Core.Path.{_≡_, refl, sym, ap, _∙_}
 use native.Mathlib.Decide.{ℕ-discrete}
@@ -13,12 +13,12 @@ use lib.Seq.{ext-getD, getD-take, drop-at, drop-append-add, length-take-le}
 use Rattle.wire.specs.Limits.{maxNumbers}
 use Rattle.wire.specs.Numbers.{stored, listed}
 use Rattle.wire.specs.declared.frame.Numbers.{Numbers}
-use Rattle.wire.specs.Tray.{Entry, entries}
+use Rattle.wire.specs.Tray.{Entry}
 use Rattle.controller.specs.First.{firstOf, firstsAfter, roundsAfter}
 use Rattle.controller.specs.Laws.First.{alongside-length, beside-gives}
 use Rattle.controller.specs.Laws.Lists.{true-or-false, in-or-not, in-mem, mem-in, getD-in, count-none, count-short, rising-at, inside-length}
 use Rattle.controller.specs.Laws.Lists.{rising-no-repeats, rising-same}
-use Rattle.controller.specs.Laws.Received.{heard-in, heard-rising}
+use Rattle.controller.specs.Laws.Received.{heard-in}
 use Rattle.controller.specs.Laws.State.{sound-beside, sound-gives, sound-list-gives}
 use Rattle.controller.specs.Lists.{In, Inside, Rising, mem}
 use Rattle.controller.specs.Received.{receive}
