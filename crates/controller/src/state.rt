@@ -31,8 +31,8 @@ pub struct Answer {
     pub length: usize,
 }
 
-// A state but for the places of its lists and its record, which are lent beside it: a call that works in place copies none of them. The order leaves no gap between the
-// fields, so that they are copied as whole words.
+// A state but for the places of its lists and of its record, which are lent beside it: a call that works in place copies none of them. The order leaves no
+// gap between the fields, so that they are copied as whole words.
 pub struct Fields {
     pub own: u32,
     pub round: u32,

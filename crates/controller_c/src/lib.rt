@@ -49,7 +49,8 @@ fn hand_over(
     written: &mut usize,
 ) -> u8
     requires { ⌜ HandsOver (answerOf worked (now heard) (now candidates) (now echoes) (now since)) (length (now image)) ⌝ }
-    ensures { λ r. ⌜ HandedOver (answerOf worked (before heard) (before candidates) (before echoes) (before since)) (before image) r (after image) (after written) ⌝ }
+    ensures { λ r.
+        ⌜ HandedOver (answerOf worked (before heard) (before candidates) (before echoes) (before since)) (before image) r (after image) (after written) ⌝ }
 {
     *written = worked.length;
     let refusal = worked.refusal;

@@ -5,7 +5,8 @@
 --     Hears o b l r at f       r is at most 64 exactly if the senders of the tray b fit, o being the own number, and at most 64 are then heard; if so, the
 --                              list of r numbers with the places at is the stored form of those, and f has a note on each of them
 --     receivedBy s b           what the state s has received with the tray b
---     Ready s b f              what a step finds: a state s that is sound by document 01's rules, a tray b whose senders are all heard, and in f a note on each number heard
+--     Ready s b f              what a step finds: a state s that is sound by document 01's rules, a tray b whose senders are all heard, and in f a note on each
+--                              number heard
 --     WhereReady f h b t P     P holds of each state with the fields f, where h are those heard, and of the tray b, if it is ready
 --     contentUnder s b x k     the content of the frame received under x in the state s, with the note k on x in the tray b
 --     bitUnder o t d b x k     that frame's bit, where o is the own number, t the round and d said; 3 where it is void or there is not one

@@ -39,21 +39,33 @@ laid s b z n =
     ∙ join-at b 0 heardAt (headBytes s) (listBytes (s .heard) ++ first) (omega arith)
     ∙ sets-whole b (laidOut s) (laid-out-length s z ∙ sym n)
 
+-- what was given; the head is stored, then the lists, then the record
+abbrev given : tie.After-put-head → tie.Start
+given c = c .before .before .before
+
+abbrev headed : tie.After-put-lists-arg → tie.After-put-head
+headed c = c .before .before .before
+
+abbrev listed : tie.After-put-rounds-arg → tie.After-put-lists
+listed c = c .before .before .before
+
+abbrev recorded : tie.After-clear-arg → tie.After-put-rounds
+recorded c = c .before .before .before
+
+-- the state that is lent in parts
+abbrev state : tie.Start → State
+state c =
+    let a = c .args in
+    wholeOf (a .fields) (now (a .heard)) (now (a .candidates)) (now (a .echoes)) (now (a .since))
+
 put-head-requires : tie.Need-put-head-requires
 put-head-requires c κs = search needs
 
 put-lists-requires : tie.Need-put-lists-requires
-put-lists-requires c κs =
-    let start = c .before .before .before .before .before .before in
-    let a = start .args in
-    let s = wholeOf (a .fields) (now (a .heard)) (now (a .candidates)) (now (a .echoes)) (now (a .since)) in
-    (rules-alone (a .fields) (now (a .heard)) (now (a .candidates)) (now (a .echoes)) (now (a .since)) (sound-rules s (start .pre .0)), search needs)
+put-lists-requires c κs = let start = given (headed c) in (rules-alone _ _ _ _ _ (sound-rules (state start) (start .pre .0)), search needs)
 
 put-rounds-requires : tie.Need-put-rounds-requires
-put-rounds-requires c κs =
-    let start = c .before .before .before .before .before .before .before .before .before .before in
-    let a = start .args in
-    (since-places (wholeOf (a .fields) (now (a .heard)) (now (a .candidates)) (now (a .echoes)) (now (a .since))) (start .pre .0), search needs)
+put-rounds-requires c κs = let start = given (headed (listed c .before)) in (since-places (state start) (start .pre .0), search needs)
 
 clear-requires : tie.Need-clear-requires
 clear-requires c κs = search needs
@@ -64,16 +76,15 @@ same-length c = search needs
 returns : tie.Need-returns
 unfolding zerosFrom
 returns c =
-    let asked = c .before .before .before in
-    let rounds = asked .before .before .before in
-    let lists = rounds .before .before .before .before in
-    let after-head = lists .before in
-    let head = after-head .before .before .before in
-    let start = head .before .before .before in
-    let a = start .args in
-    let s = wholeOf (a .fields) (now (a .heard)) (now (a .candidates)) (now (a .echoes)) (now (a .since)) in
-    c .before .before .clear .ensures
-    ∙ rw (rounds .put-rounds .ensures, lists .put-lists .ensures, head .put-head .ensures) (laid s (now (a .image)) (sound-sized s (start .pre .0)) (start .pre .1))
+    let cleared = c .before .before in
+    let rounds = recorded (cleared .before) in
+    let lists = listed (rounds .before) in
+    let head = headed (lists .before) in
+    let start = given head in
+    let s = state start in
+    cleared .clear .ensures
+    ∙ rw (rounds .put-rounds .ensures, lists .put-lists .ensures, head .put-head .ensures)
+    (laid s (now (start .args .image)) (sound-sized s (start .pre .0)) (start .pre .1))
 
 pub lay-out-spec : {M : Type 1} → statement M
 lay-out-spec =
