@@ -83,7 +83,8 @@ fn record_rounds(
     let mut j = 0;
     while j < count {
         let found = find_near(heard, len, numbers[j], j);
-        rounds[j] = if found < ABSENT { old[found] } else { round };
+        let first = if found < ABSENT { old[found] } else { round };
+        rounds[j] = first;
         j += 1;
     }
 }

@@ -92,10 +92,12 @@ shared-slice-read-find-near c = search needs
 find-near-requires : tie.Need-find-near-requires Inv-loop μ-loop
 find-near-requires c κs = search needs
 
-array-read-rounds : tie.Need-array-read-rounds Inv-loop μ-loop
-array-read-rounds c =
-    let start = given (begun (c .before) .before) in
-    place-small (inPlaces (start .args .len) (now (start .args .heard))) (start .pre .0) _ _ (c .before .find-near .ensures) (c .if1 .taken)
+array-read-first : tie.Need-array-read-first Inv-loop μ-loop
+array-read-first c =
+    let turn = begun (c .before) in
+    let start = given (turn .before) in
+    let n = inPlaces (start .args .len) (now (start .args .heard)) in
+    omega (arith, place-small n (start .pre .0) _ _ (c .before .find-near .ensures) (c .if1 .taken), turn .loop-test .taken, start .pre .1)
 
 slice-write-rounds : tie.Need-slice-write-rounds Inv-loop μ-loop
 slice-write-rounds c = search needs
@@ -115,13 +117,15 @@ loop-again c =
     let n = inPlaces (a .len) (now (a .heard)) in
     let w = now (a .since) in
     let found = near .find-near .ensures in
-    let round : c .if1 .rounds ≡ roundOf (listed n) w (a .round) (getD (now (a .all)) (v .j) 0) = elim (c .if1 .came) [
+    let round : c .if1 .first ≡ roundOf (listed n) w (a .round) (getD (now (a .all)) (v .j) 0) = elim (c .if1 .came) [
       | inl p ↦ p .1 ∙ old-round n (start .pre .0) _ _ found w (a .round) (p .0 .taken)
       | inr p ↦ p .1 ∙ new-round n (start .pre .0) _ _ found w (a .round) (p .0 .left)
     ] in (
       search needs,
       simp length-set (v .inv .1),
-      rw (v .inv .2, round) (turn (listed n) (now (a .all)) w (a .round) (v .j) (search needs) (search needs)),
+      ap (λ (l : List ℕ). set l (v .j) (c .if1 .first)) (v .inv .2)
+          ∙ ap (set (movedTo (listed n) (take (v .j) (now (a .all))) (a .round) w) (v .j)) round
+          ∙ turn (listed n) (now (a .all)) w (a .round) (v .j) (search needs) (search needs),
     )
 
 returns : tie.Need-returns Inv-loop μ-loop
@@ -140,7 +144,7 @@ record-rounds-spec =
     mul-find-near
     shared-slice-read-find-near
     find-near-requires
-    array-read-rounds
+    array-read-first
     slice-write-rounds
     add-j
     loop-less
