@@ -2,7 +2,7 @@
 use borrow.Author.Needs.{needs}
 use Prim.Native.Nat.{ℕ}
 use mathlib.Core.List.{List, _++_}
-use mathlib.Core.Path.{_≡_, sym, _∙_}
+use mathlib.Core.Path.{_≡_, sym, ap, _∙_}
 use denote.Ref.{now}
 use native.Mathlib.Omega.{arith}
 use lib.ListN.{length}
@@ -10,7 +10,7 @@ use lib.Seq.{sets}
 use Rattle.controller.specs.Fields.{wholeOf}
 use Rattle.controller.specs.Laws.State.{sound-rules, since-places}
 use Rattle.controller.specs.declared.state.State.{State}
-use Rattle.controller_c.specs.Image.{imageBytes, heardAt, candidatesAt, echoesAt, sinceAt, reservedAt, headBytes, listBytes, zerosFrom, laidOut}
+use Rattle.controller_c.specs.Image.{imageBytes, heardAt, candidatesAt, echoesAt, sinceAt, reservedAt, headBytes, listBytes, withLists, zerosFrom, laidOut}
 use Rattle.controller_c.specs.Laws.Image.{SizedLists, sound-sized, rules-alone, list-bytes-length, laid-out-length}
 use Rattle.controller_c.proofs.Stores.{join-at, sets-whole}
 use Rattle.controller_c.proofs.image.lay_out.Statement.{statement}
@@ -82,9 +82,11 @@ returns c =
     let head = headed (lists .before) in
     let start = given head in
     let s = state start in
+    let with-lists = lists .put-lists .ensures ∙ ap (withLists s) (head .put-head .ensures) in
+    let with-rounds = rounds .put-rounds .ensures ∙ ap (λ (l : List ℕ). sets l sinceAt (s .since)) with-lists in
     cleared .clear .ensures
-    ∙ rw (rounds .put-rounds .ensures, lists .put-lists .ensures, head .put-head .ensures)
-    (laid s (now (start .args .image)) (sound-sized s (start .pre .0)) (start .pre .1))
+    ∙ ap (λ (l : List ℕ). sets l reservedAt (zerosFrom reservedAt)) with-rounds
+    ∙ laid s (now (start .args .image)) (sound-sized s (start .pre .0)) (start .pre .1)
 
 pub lay-out-spec : {M : Type 1} → statement M
 lay-out-spec =
