@@ -314,25 +314,6 @@ insert-all-known m l up inside =
     (λ y i. elim (insert-all-in m l .0 i) [ inl j ↦ inside y j | inr j ↦ j ])
     (λ y i. insert-all-in m l .1 (inr i))
 
--- the order in which numbers come in does not matter
-pub insert-all-insert : (x : ℕ) (m l : List ℕ) → Rising l → insertAll m (insert x l) ≡ insert x (insertAll m l)
-insert-all-insert x m l up =
-    rising-same _ _ (insert-all-rising m (insert x l) (insert-rising x l up)) (insert-rising x (insertAll m l) (insert-all-rising m l up))
-    (λ y i. elim (insert-all-in m (insert x l) .0 i) [
-      | inl j ↦ insert-in x (insertAll m l) .1 (inr (insert-all-in m l .1 (inl j)))
-      | inr j ↦ elim (insert-in x l .0 j) [
-        | inl e ↦ insert-in x (insertAll m l) .1 (inl e)
-        | inr k ↦ insert-in x (insertAll m l) .1 (inr (insert-all-in m l .1 (inr k)))
-      ]
-    ])
-    (λ y i. elim (insert-in x (insertAll m l) .0 i) [
-      | inl e ↦ insert-all-in m (insert x l) .1 (inr (insert-in x l .1 (inl e)))
-      | inr j ↦ elim (insert-all-in m l .0 j) [
-        | inl k ↦ insert-all-in m (insert x l) .1 (inl k)
-        | inr k ↦ insert-all-in m (insert x l) .1 (inr (insert-in x l .1 (inr k)))
-      ]
-    ])
-
 -- ---- the test `rising 0` of the formats, in the words above
 
 rising-from-gives : (a : ℕ) (l : List ℕ) → rising a l ≡ true → Rising l × ((x : ℕ) → In x l → a < x)
