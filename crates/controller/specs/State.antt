@@ -6,7 +6,9 @@
 --     firstRounds s        its record: beside each number heard, in heard's order, the round of the tray that first brought it
 --     storedState v p      the stored state of the view v, where p are the places of the record; recorded l, the places of the record l
 --     startView n b        the state after a start with number n and bit b; startRounds, the places of its record
---     sound s              the papers' "sound": the rules that they list, and nothing more; soundRules s, those of document 01
+--     sound s              the papers' "sound": the rules that they list, and nothing more
+--     soundRules s         document 01's rules of soundness
+--     soundBeside o l w    document 02's: the places w of the record are in range beside the numbers l, of which o is the own one
 --     undecided v          the decision is 2, none
 use Prim.Native.Nat.{ℕ}
 use mathlib.Core.Bool.{Bool, true, false, not, cond, _&&_}
@@ -142,7 +144,7 @@ soundRules s =
 abbrev pub firstFits : ℕ → ℕ → ℕ → Bool
 firstFits own x t = cond (eqb x own) (eqb t 0) (leb 1 t && ltb t lastRound)
 
--- each number of a list, with what stands beside it in the other
+-- P holds of each number of a list with what stands beside it in the other, and the two are as long
 abbrev pub alongside : (ℕ → ℕ → Bool) → List ℕ → List ℕ → Bool
 alongside P [] [] = true
 alongside P [] (t ∷ w) = false
