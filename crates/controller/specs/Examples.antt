@@ -1,5 +1,5 @@
 -- The two worked examples of document 01: the session that "The session printer" lists, and the last of the "Trials".
---     started v            the state after a start that made v
+--     afterStart v         the state after a start that made v
 --     worked s b           the state that a call makes of s with the tray b
 --     row v                a line of the printer: what a call that made the state v prints
 --     listing s bs         the lines from the state s on, over the trays bs
@@ -28,8 +28,8 @@ use Rattle.controller.specs.Refusals.{startRefusal, trayRefusal}
 use Rattle.controller.specs.Calls.{sentBytes}
 use Rattle.controller.specs.declared.state.State.{State}
 
-abbrev pub started : View → State
-started v = storedState v startRounds
+abbrev pub afterStart : View → State
+afterStart v = storedState v startRounds
 
 abbrev pub worked : State → List ℕ → State
 worked s b = storedState (next (view s) (entries b)) (roundsAfter s (entries b))
@@ -62,9 +62,9 @@ emptyTrays =
 
 pub record Session : Type 0 where
   pub start-accepted : startRefusal 7 1 maxFrame ≡ 0
-  pub trays-accepted : refusals (started (startView 7 1)) emptyTrays ≡ replicate 5 0
+  pub trays-accepted : refusals (afterStart (startView 7 1)) emptyTrays ≡ replicate 5 0
   pub printed :
-      listing (started (startView 7 1)) emptyTrays
+      listing (afterStart (startView 7 1)) emptyTrays
       ≡ (1 ∷ 1 ∷ 2 ∷ 0 ∷ 1 ∷ 0 ∷ 0 ∷ 2 ∷ [])
       ∷ (2 ∷ 2 ∷ 2 ∷ 1 ∷ 1 ∷ 0 ∷ 0 ∷ 2 ∷ [])
       ∷ (3 ∷ 3 ∷ 1 ∷ 0 ∷ 1 ∷ 1 ∷ 7 ∷ 2 ∷ [])
@@ -118,7 +118,7 @@ abbrev pub starts : ℕ → ℕ → ℕ → List View
 starts a b c = startView 5 a ∷ startView 7 b ∷ startView 9 c ∷ []
 
 abbrev pub begun : ℕ → ℕ → ℕ → List State
-begun a b c = map started (starts a b c)
+begun a b c = map afterStart (starts a b c)
 
 abbrev pub trayRefusals : List State → List ℕ
 trayRefusals ss = map (λ (s : State). trayRefusal s (trayTo s ss) maxFrame) ss

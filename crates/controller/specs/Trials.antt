@@ -10,7 +10,8 @@ use mathlib.Core.Path.{_≡_}
 use Rattle.wire.specs.Limits.{maxFrame}
 use Rattle.wire.specs.Trials.{FrameTrial, FrameHolds, frameTrials}
 use Rattle.controller.specs.Thirds.{third, twoThirds}
-use Rattle.controller.specs.State.{storedState, startView, startRounds}
+use Rattle.controller.specs.State.{startView}
+use Rattle.controller.specs.Examples.{afterStart}
 use Rattle.controller.specs.Refusals.{trayRefusal}
 use Rattle.controller.specs.declared.state.State.{State}
 
@@ -29,7 +30,7 @@ Holds (Tray s b k) = trayRefusal s b maxFrame ≡ k
 
 -- a state of round 1
 abbrev pub started : State
-started = storedState (startView 7 1) startRounds
+started = afterStart (startView 7 1)
 
 abbrev pub trials : List Trial
 trials =

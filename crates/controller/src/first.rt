@@ -1,5 +1,5 @@
 // When each number was first heard: the record beside heard, which no rule of a step reads.
-ghost use mathlib.Core.Bool.{true, cond};
+ghost use mathlib.Core.Bool.{true};
 ghost use mathlib.Core.Path.{_≡_};
 ghost use Prim.Native.Nat.{_≤_, _<_};
 ghost use lib.ListN.{length, take};
@@ -11,17 +11,11 @@ ghost use Rattle.controller.specs.Work.First.{isZero, timely, RoundsSoun
 ghost use Rattle.controller.specs.Work.Lists.{inPlaces};
 use crate::lists::ABSENT;
 use crate::lists::find_near;
+use crate::received::one_if;
 use wire::limits::MAX_NUMBERS;
 
 // The last round whose tray can be worked: the one before the last that is sent.
 const LAST_WORKED: u8 = 194;
-
-// 1 for 0, else 0.
-fn one_if_zero(x: u8) -> u8
-    ensures { λ r. ⌜ r ≡ cond (isZero x) 1 0 ⌝ }
-{
-    if x == 0 { 1 } else { 0 }
-}
 
 // How many of the first `len` places are 0.
 fn zeros(rounds: &[u8; MAX_NUMBERS], len: usize) -> u8
@@ -31,7 +25,7 @@ fn zeros(rounds: &[u8; MAX_NUMBERS], len: usize) -> u8
     let mut zeros = 0;
     let mut i = 0;
     while i < len {
-        zeros += one_if_zero(rounds[i]);
+        zeros += one_if(rounds[i], 0) as u8;
         i += 1;
     }
     zeros

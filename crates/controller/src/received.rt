@@ -150,8 +150,8 @@ pub(crate) fn sent_count(fields: Fields) -> usize
     }
 }
 
-// 1 where two bits are the same, else 0.
-fn one_if(bit: u8, other: u8) -> usize
+// 1 where two bytes are the same, else 0.
+pub(crate) fn one_if(bit: u8, other: u8) -> usize
     ensures { λ r. ⌜ r ≡ cond (eqb bit other) 1 0 ⌝ }
 {
     if bit == other { 1 } else { 0 }

@@ -17,7 +17,7 @@ use Rattle.controller.specs.Laws.Lists.{in-mem, out-mem, in-or-not}
 use Rattle.controller.specs.Laws.Received.{heard-in}
 use Rattle.controller.specs.Laws.Refusals.{Fits}
 use Rattle.controller.specs.Laws.Rules.{next-sound, step-heard, step-own}
-use Rattle.controller.specs.Laws.State.{Sound, same-gives, same-test, sound-gives, sound-beside, sound-both, start-sound}
+use Rattle.controller.specs.Laws.State.{Sound, same-test, sound-gives, sound-beside, beside-gives, sound-both, start-sound}
 use Rattle.controller.specs.Lists.{In, mem}
 use Rattle.controller.specs.Received.{senders, receive}
 use Rattle.controller.specs.Rules.{next}
@@ -72,13 +72,6 @@ first-of-none (y ∷ l) (t ∷ w) x out = rw (ne-eqb x y (λ e. out (List·Mem�
 -- where the record has as many rounds as there are numbers, its places hold just it
 pub recorded-used : (l w : List ℕ) → length w ≡ length l → take (length l) (recorded w) ≡ w
 recorded-used l w e = rw (sym e) (listed-stored w)
-
-pub beside-gives : (own : ℕ) (l p : List ℕ) → soundBeside own l p ≡ true
-    → (alongside (firstFits own) l (take (length l) p) ≡ true) × (recorded (take (length l) p) ≡ p)
-unfolding soundBeside
-beside-gives own l p h =
-    let both = and-eq-true-iff (alongside (firstFits own) l (take (length l) p)) _ .0 h in
-    (both .0, sym (same-gives _ _ (both .1)))
 
 pub beside-test : (own : ℕ) (l w : List ℕ) → alongside (firstFits own) l w ≡ true → soundBeside own l (recorded w) ≡ true
 unfolding soundBeside

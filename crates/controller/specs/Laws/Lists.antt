@@ -47,6 +47,12 @@ getD-in [] i h = absurd (omega arith)
 getD-in (x ∷ l) zero h = List·Memᴰ·head refl
 getD-in (x ∷ l) (suc i) h = List·Memᴰ·tail (getD-in l i (omega arith))
 
+-- what is said of places behind the end does not matter before it
+pub getD-inside : (l : List ℕ) (i d e : ℕ) → i < length l → getD l i d ≡ getD l i e
+getD-inside [] i d e h = absurd (omega arith)
+getD-inside (x ∷ l) zero d e h = refl
+getD-inside (x ∷ l) (suc i) d e h = getD-inside l i d e (omega arith)
+
 pub list-some : (l : List ℕ) → 0 < length l → (x : ℕ) × In x l
 list-some [] h = absurd (omega arith)
 list-some (x ∷ l) h = (x, List·Memᴰ·head refl)

@@ -208,14 +208,21 @@ rules-give s h =
       decision = leb-true _ _ (t .decision);
     }
 
+-- what soundness says of the record's places: they are in range, and hold nothing else
+pub beside-gives : (own : ℕ) (l p : List ℕ) → soundBeside own l p ≡ true
+    → (alongside (firstFits own) l (take (length l) p) ≡ true) × (recorded (take (length l) p) ≡ p)
+unfolding soundBeside
+beside-gives own l p h =
+    let both = and-eq-true-iff (alongside (firstFits own) l (take (length l) p)) _ .0 h in
+    (both .0, sym (same-gives _ _ (both .1)))
+
 -- the record has its 64 places
 pub since-places : (s : State) → sound s ≡ true → length (s .since) ≡ maxNumbers
-unfolding soundBeside
 since-places s h =
-    let used = take (length (listed (s .heard))) (s .since) in
-    let both = and-eq-true-iff (alongside (firstFits (s .own)) (listed (s .heard)) used) (same (s .since) (recorded used)) .0 (sound-beside s h) in
+    let l = listed (s .heard) in
     let few = sound-list-gives (s .heard) (tests-give s (sound-rules s h) .heard) .list .short in
-    ap length (same-gives (s .since) (recorded used) (both .1)) ∙ recorded-length used (omega (arith, length-take (length (listed (s .heard))) (s .since)))
+    sym (ap length (beside-gives (s .own) l (s .since) (sound-beside s h) .1))
+    ∙ recorded-length (take (length l) (s .since)) (omega (arith, length-take (length l) (s .since)))
 
 pub sound-gives : (s : State) → sound s ≡ true → Sound (view s)
 sound-gives s h = rules-give s (sound-rules s h)

@@ -24,8 +24,7 @@ use Rattle.wire.specs.declared.frame.Numbers.{Numbers}
 use Rattle.controller.specs.Fields.{wholeOf, stateOf}
 use Rattle.controller.specs.State.{firstRounds, soundList, soundRules, sound}
 use Rattle.controller.specs.Laws.State.{ListTests, sound-list-gives, sound-list-test, rules-give, rules-heard, rules-stored}
-use Rattle.controller.specs.Laws.State.{sound-rules, sound-beside, since-places}
-use Rattle.controller.specs.Laws.First.{beside-gives}
+use Rattle.controller.specs.Laws.State.{sound-rules, sound-beside, beside-gives, since-places}
 use Rattle.controller.specs.declared.state.Fields.{Fields}
 use Rattle.controller.specs.declared.state.State.{State}
 use Rattle.controller_c.specs.Image.{imageBytes, heardAt, candidatesAt, echoesAt, sinceAt, reservedAt, countBytes, listWidth, headBytes, listBytes}
@@ -43,14 +42,7 @@ pub record Sized (n : Numbers) : Type 0 where
   pub places : length (n .at) ≡ maxNumbers
 
 pub list-sized : (n : Numbers) → soundList n ≡ true → Sized n
-list-sized n h =
-    let t = sound-list-gives n h in
-    let l = listed n in
-    let used = t .used in
-    let short = t .list .short in
-    let at : n .at ≡ l ++ replicate (maxNumbers - length l) 0 = ap (λ (m : Numbers). m .at) (sym (t .back)) in
-    let all : length (l ++ replicate (maxNumbers - length l) 0) ≡ maxNumbers = rw (length-append, length-replicate) (omega arith) in
-    record { few = omega arith; places = ap length at ∙ all }
+list-sized n h = let t = sound-list-gives n h in record { few = omega (arith, t .used, t .list .short); places = t .places }
 
 pub record SizedLists (s : State) : Type 0 where
   pub heard : Sized (s .heard)

@@ -43,7 +43,7 @@ promise-makes {n} {v} h e =
     let t : eqb n 0 ≡ true = eq-eqb n 0 (sym (h .number) ∙ e) in
     record { state = rw t at (h .state); frame = rw (h .written, h .output, t) (take-append-seam (sentBytes v) _) }
 
-promise-keeps : {n : ℕ} {v : View} {p : List ℕ} {s : State} {before : List ℕ} {a : Answer} {after : List ℕ}
+pub promise-keeps : {n : ℕ} {v : View} {p : List ℕ} {s : State} {before : List ℕ} {a : Answer} {after : List ℕ}
     → Promise n v p s before a after → a .refusal ≢ 0 → a .state ≡ s
 promise-keeps {n} h e = let t : eqb n 0 ≡ false = ne-eqb n 0 (λ z. e (h .number ∙ z)) in rw t at (h .state)
 

@@ -20,7 +20,7 @@ use Rattle.controller.specs.Received.{senders}
 use Rattle.controller.specs.State.{View, view, firstRounds}
 use Rattle.controller.specs.declared.state.State.{State}
 use Rattle.run.specs.FirstHeard.{stateAfter, heard, Brought, firstBrought, FirstHeard}
-use Rattle.run.specs.Proof.Calls.{makes-view, receivedWith, madeBy, accepted-fits, accepted-makes, accepted-or-kept, start-returns, given-listed, state-own}
+use Rattle.run.specs.Proof.Calls.{makes-view, receivedWith, madeBy, accepted-fits, accepted-makes, accepted-or-kept, promise-keeps, start-returns, given-listed, state-own}
 use Rattle.run.specs.Run.{Member, TrayCall, Accepted, HandedOn, Controller}
 
 -- ---- one call that works
@@ -67,9 +67,6 @@ not-brought : (k : TrayCall) (ks : List TrayCall) (x : ℕ) → ((k .answer .ref
 not-brought k ks x (inl refused) = rw (ne-eqb _ _ refused)
 not-brought k ks x (inr out) = rw (out-mem (senders (entries (k .tray))) out, and-false)
 
-refused-same : (k : TrayCall) → k .answer .refusal ≢ 0 → k .answer .state ≡ k .state
-refused-same k refused = elim (accepted-or-kept k) [ inl w ↦ absurd (refused w) | inr e ↦ e ]
-
 -- a number that no worked tray brings
 never-brought : (x : ℕ) (ks : List TrayCall) → ((k : TrayCall) → Member k ks → Accepted k → ¬ In x (senders (entries (k .tray)))) → firstBrought x ks ≡ 0
 never-brought x [] out = refl
@@ -109,7 +106,7 @@ unheard-brought s (k ∷ ks) h x out =
             unheard-brought (k .answer .state) ks (h .1) x still ∙ sym (not-brought k ks x (inr away))
       ]
       | no refused ↦
-          let same = refused-same k refused in
+          let same : k .answer .state ≡ k .state = promise-keeps (k .promise) refused in
           unheard-brought (k .answer .state) ks (h .1) x (subst (λ u. ¬ In x (heard u)) (sym same) before)
           ∙ sym (not-brought k ks x (inl refused))
     ]
@@ -137,7 +134,7 @@ heard-after s (k ∷ ks) h x =
         ]),
       )
       | no refused ↦
-          let same = refused-same k refused in (
+          let same : k .answer .state ≡ k .state = promise-keeps (k .promise) refused in (
             λ i. elim (rest .0 i) [ inl j ↦ inl (back (subst (λ u. In x (heard u)) same j)) | inr b ↦ inr (later b) ],
             λ e. rest .1 (elim e [
               | inl i ↦ inl (subst (λ u. In x (heard u)) (sym same) (there i))

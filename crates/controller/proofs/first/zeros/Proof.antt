@@ -30,27 +30,34 @@ few : (s : List ℕ) (i : ℕ) → i ≤ length s → countIf isZero (take i s) 
 few s i h = omega (arith, count-split isZero (take i s), length-take-le i s h)
 
 -- what was given, and the total with the place of a turn
-abbrev given : tie.After-one-if-zero Inv-loop μ-loop → List ℕ
+abbrev given : tie.After-one-if Inv-loop μ-loop → List ℕ
 given c = now (c .before .before .before .before .args .rounds)
 
-counted : (c : tie.After-one-if-zero Inv-loop μ-loop)
+counted : (c : tie.After-one-if Inv-loop μ-loop)
     → let v = c .before .before .before .loop in
-    v .zeros + c .one-if-zero .result ≡ countIf isZero (take (v .i + 1) (given c))
+    v .zeros + c .one-if .result ≡ countIf isZero (take (v .i + 1) (given c))
 counted c =
     let v = c .before .before .before .loop in
-    turn (given c) (v .i) (v .zeros) (c .one-if-zero .result) (search needs) (v .inv .1) (c .one-if-zero .ensures)
+    turn (given c) (v .i) (v .zeros) (c .one-if .result) (search needs) (v .inv .1) (c .one-if .ensures)
+
+-- so that it fits a byte
+small : (c : tie.After-one-if Inv-loop μ-loop) → let v = c .before .before .before .loop in v .zeros + c .one-if .result ≤ v .i + 1
+small c = omega (arith, counted c, few (given c) (c .before .before .before .loop .i + 1) (search needs))
 
 loop-holds : tie.Need-loop-holds Inv-loop μ-loop
 loop-holds c = (search needs, refl)
 
-element-copy-out-one-if-zero : tie.Need-element-copy-out-one-if-zero Inv-loop μ-loop
-element-copy-out-one-if-zero c = search needs
+element-copy-out-one-if : tie.Need-element-copy-out-one-if Inv-loop μ-loop
+element-copy-out-one-if c = search needs
 
-one-if-zero-requires : tie.Need-one-if-zero-requires Inv-loop μ-loop
-one-if-zero-requires c κs = search needs
+one-if-requires : tie.Need-one-if-requires Inv-loop μ-loop
+one-if-requires c κs = search needs
+
+cast-zeros : tie.Need-cast-zeros Inv-loop μ-loop
+cast-zeros c = let total = small c in search needs
 
 add-zeros : tie.Need-add-zeros Inv-loop μ-loop
-add-zeros c = let i = c .before .before .before .loop .i in omega (arith, counted c, few (given c) (i + 1) (search needs))
+add-zeros c = let total = small c in search needs
 
 add-i : tie.Need-add-i Inv-loop μ-loop
 add-i c = search needs
@@ -75,8 +82,9 @@ zeros-spec =
     Inv-loop
     μ-loop
     loop-holds
-    element-copy-out-one-if-zero
-    one-if-zero-requires
+    element-copy-out-one-if
+    one-if-requires
+    cast-zeros
     add-zeros
     add-i
     loop-less

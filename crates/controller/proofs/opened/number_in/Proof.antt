@@ -12,7 +12,8 @@ use lib.ListN.{length, getD, List·getD-eq-default}
 use lib.Seq.{getD-take}
 use Rattle.wire.specs.Limits.{numberWidth}
 use Rattle.wire.specs.Words.{wordAt}
-use Rattle.controller.specs.Laws.Work.Opened.{getD-inside, list-from-length}
+use Rattle.controller.specs.Laws.Work.Opened.{list-from-length}
+use Rattle.controller.specs.Laws.Lists.{getD-inside}
 use Rattle.wire.specs.Laws.Words.{words-at}
 use Rattle.controller.specs.Work.Opened.{endMark, listFrom, Lies}
 use Rattle.controller.proofs.opened.number_in.Statement.{statement}

@@ -21,8 +21,8 @@ use Rattle.controller.specs.Lists.{mem, Rising}
 use Rattle.controller.specs.Work.Lists.{below}
 use Rattle.controller.specs.Work.Opened.{total, endMark, maxLists, openList, Opens, weighed}
 use Rattle.controller.specs.Work.Heads.{slots, keyOf, Stands, Standing, Moves, lesserOf, siblingOf, Ordered, Roomy, Passes}
-use Rattle.controller.specs.Laws.Lists.{count-none}
-use Rattle.controller.specs.Laws.Work.Opened.{getD-inside, list-from-length}
+use Rattle.controller.specs.Laws.Lists.{getD-inside, count-none}
+use Rattle.controller.specs.Laws.Work.Opened.{list-from-length}
 use Rattle.controller.specs.Laws.Work.Lists.{below-past, below-finds, below-length, below-misses}
 use Rattle.controller.specs.Laws.Work.Total.{total-same, total-one, total-none}
 use Rattle.controller.specs.Laws.Work.Tree.{LeafOf, OrderedBut, lesser-one, leaf-of, ordered-all, ordered-beside}

@@ -8,9 +8,10 @@ use native.Mathlib.Numerals.{add-one}
 use native.Mathlib.Omega.{arith}
 use borrow.Author.Tests.{ltb-true, ltb-false, eq-eqb, ne-eqb, lt-ltb, le-ltb}
 use lib.Dec.{eqb, ltb}
-use lib.ListN.{length, getD, set, take, drop, replicate, length-append, length-take, length-drop, List·getD-append}
+use lib.ListN.{length, getD, set, take, drop, replicate, length-append, length-take, length-drop, length-replicate, replicate-append-replicate}
+use lib.ListN.{List·getD-append}
 use lib.Seq.{take-suc, append-snoc, set-set, set-at, set-split, getD-set-other, getD-append-add, getD-take, getD-drop, slice, slice-empty}
-use lib.Seq.{slice-cons, length-slice, drop-append-add, length-take-le, take-length, drop-length, take-take}
+use lib.Seq.{slice-cons, length-slice, drop-at, drop-append-add, length-take-le, take-length, drop-length, take-take}
 use Rattle.wire.specs.Limits.{maxNumbers}
 use Rattle.wire.specs.Numbers.{stored, listed}
 use Rattle.wire.specs.declared.frame.Numbers.{Numbers}
@@ -183,19 +184,23 @@ module _ (x n i : ℕ) (s at : List ℕ) (h : i < n) (k : n ≤ length s) (e : s
 
 -- ---- the stored form
 
-drop-zeros : (l : List ℕ) (k m : ℕ) → length l ≡ k → drop (k + 1) (l ++ replicate (suc m) 0) ≡ replicate m 0
-drop-zeros l k m e = rw (← e) (drop-append-add l (replicate (suc m) 0) 1)
+-- behind a list all places are 0, also from a later place on
+pub unused-from : (l : List ℕ) (j : ℕ) → length l ≤ j → j ≤ maxNumbers → drop j ((stored l) .at) ≡ replicate (maxNumbers - j) 0
+unused-from l j h k =
+    let unused = maxNumbers - length l in
+    let passed = j - length l in
+    let at : length l + passed ≡ j = omega arith in
+    let left : passed + (maxNumbers - j) ≡ unused = omega arith in
+    rw at at (drop-append-add l (replicate unused 0) passed)
+    ∙ ap (λ (n : ℕ). drop passed (replicate n 0)) (sym left)
+    ∙ ap (drop passed) (sym (replicate-append-replicate passed (maxNumbers - j) 0))
+    ∙ drop-at (replicate passed 0) (replicate (maxNumbers - j) 0) passed (length-replicate passed 0)
 
 -- the unused places behind the one that is taken next
 unused-rest : (n : Numbers) → stored (listed n) ≡ n → n .len < maxNumbers → drop (n .len + 1) (n .at) ≡ replicate (maxNumbers - (n .len + 1)) 0
 unused-rest n e h =
-    let l = listed n in
-    let used : length l ≡ n .len = ap (λ (m : Numbers). m .len) e in
-    let at : l ++ replicate (maxNumbers - length l) 0 ≡ n .at = ap (λ (m : Numbers). m .at) e in
-    let next : maxNumbers - length l ≡ suc (maxNumbers - (n .len + 1)) = omega arith in
-    sym (ap (λ (s : List ℕ). drop (n .len + 1) s) at)
-    ∙ ap (λ (c : ℕ). drop (n .len + 1) (l ++ replicate c 0)) next
-    ∙ drop-zeros l (n .len) (maxNumbers - (n .len + 1)) used
+    let used : length (listed n) ≡ n .len = ap (λ (m : Numbers). m .len) e in
+    sym (ap (λ (m : Numbers). drop (n .len + 1) (m .at)) e) ∙ unused-from (listed n) (n .len + 1) (omega arith) (omega arith)
 
 places-stored : (n : Numbers) (i x : ℕ) → stored (listed n) ≡ n → n .len < maxNumbers → i ≤ n .len
     → opened i x (n .len) (n .at) ≡ insertedAt i x (listed n) ++ replicate (maxNumbers - (n .len + 1)) 0

@@ -1,5 +1,5 @@
 -- Laws of the record as it is moved to beside those heard after a tray: its places are those that the rules' words give.
-use Prim.Native.Nat.{ℕ, zero, suc, _+_, _-_, _≤_, _<_}
+use Prim.Native.Nat.{ℕ, _+_, _-_, _≤_, _<_}
 use mathlib.Core.Bool.{true, cond}
 use mathlib.Core.List.{List, [], _∷_, _++_, map, List·Memᴰ·cases-cons, List·Memᴰ·not-nil}
 use mathlib.Core.Logic.{inl, inr}
@@ -8,18 +8,19 @@ use native.Mathlib.Decide.{ℕ-discrete}
 use native.Mathlib.Omega.{arith}
 use borrow.Author.Tests.{eq-eqb, ne-eqb, lt-ltb, le-ltb}
 use lib.Dec.{ltb}
-use lib.ListN.{length, getD, take, drop, replicate, length-map, length-replicate, replicate-append-replicate, take-append-drop}
-use lib.Seq.{ext-getD, getD-take, drop-at, drop-append-add, length-take-le}
+use lib.ListN.{length, getD, take, drop, replicate, length-map, take-append-drop, List·getD-map}
+use lib.Seq.{ext-getD, getD-take, length-take-le}
 use Rattle.wire.specs.Limits.{maxNumbers}
 use Rattle.wire.specs.Numbers.{stored, listed}
 use Rattle.wire.specs.declared.frame.Numbers.{Numbers}
 use Rattle.wire.specs.Tray.{Entry}
 use Rattle.controller.specs.First.{firstOf, firstsAfter, roundsAfter}
-use Rattle.controller.specs.Laws.First.{alongside-length, beside-gives}
-use Rattle.controller.specs.Laws.Lists.{true-or-false, in-or-not, in-mem, mem-in, getD-in, count-none, count-short, rising-at, inside-length}
+use Rattle.controller.specs.Laws.First.{alongside-length}
+use Rattle.controller.specs.Laws.Lists.{true-or-false, in-or-not, in-mem, mem-in, getD-in, count-none, count-short, rising-at, inside-length, getD-inside}
 use Rattle.controller.specs.Laws.Lists.{rising-no-repeats, rising-same}
 use Rattle.controller.specs.Laws.Received.{heard-in}
-use Rattle.controller.specs.Laws.State.{sound-beside, sound-gives, sound-list-gives}
+use Rattle.controller.specs.Laws.Work.Lists.{unused-from}
+use Rattle.controller.specs.Laws.State.{sound-beside, beside-gives, sound-gives, sound-list-gives}
 use Rattle.controller.specs.Lists.{In, Inside, Rising, mem}
 use Rattle.controller.specs.Received.{receive}
 use Rattle.controller.specs.State.{view, firstRounds, firstFits, recorded, sound}
@@ -73,27 +74,8 @@ moved-same l w t up short =
     let size : length (map f l) ≡ length l = length-map l f in
     let used : map f l ≡ take (length l) w = ext-getD 0 (map f l) (take (length l) w) (size ∙ sym (length-take-le (length l) w short)) (λ j h.
     let inside : j < length l = omega (arith, size) in
-    getD-map f l j inside ∙ rw (in-mem (getD-in l j inside), rising-at l j up inside) (sym (getD-take (length l) w j 0 inside))) in
+    getD-inside (map f l) j 0 (f 0) h ∙ List·getD-map f l j 0 ∙ rw (in-mem (getD-in l j inside), rising-at l j up inside) (sym (getD-take (length l) w j 0 inside))) in
     ap (λ (u : List ℕ). u ++ drop (length l) w) used ∙ take-append-drop (length l) w
-  where
-    getD-map : (f : ℕ → ℕ) (l : List ℕ) (j : ℕ) → j < length l → getD (map f l) j 0 ≡ f (getD l j 0)
-    getD-map f [] j h = absurd (omega arith)
-    getD-map f (x ∷ l) zero h = refl
-    getD-map f (x ∷ l) (suc j) h = getD-map f l j (omega arith)
-
--- ---- the unused places
-
--- behind the record all places are 0, also from a later place on
-rest-zero : (u : List ℕ) (j : ℕ) → length u ≤ j → j ≤ maxNumbers → drop j (recorded u) ≡ replicate (maxNumbers - j) 0
-rest-zero u j h k =
-    let unused = maxNumbers - length u in
-    let passed = j - length u in
-    let at : length u + passed ≡ j = omega arith in
-    let left : passed + (maxNumbers - j) ≡ unused = omega arith in
-    rw at at (drop-append-add u (replicate unused 0) passed)
-    ∙ ap (λ (n : ℕ). drop passed (replicate n 0)) (sym left)
-    ∙ ap (drop passed) (sym (replicate-append-replicate passed (maxNumbers - j) 0))
-    ∙ drop-at (replicate passed 0) (replicate (maxNumbers - j) 0) passed (length-replicate passed 0)
 
 -- ---- the record after a tray
 
@@ -122,7 +104,7 @@ module _ (s : State) (es : List Entry) (h : sound s ≡ true) where
       let given : ℕ → ℕ = λ x. cond (mem x l) (firstOf x l (firstRounds s)) (s .round) in
       let same : (λ x. cond (mem x l) (getD (s .since) (below x l) 0) (s .round)) ≡ given = λ i x. sym (each x) i in
       let rest : drop (length m) (s .since) ≡ replicate (maxNumbers - length m) 0 =
-      ap (drop (length m)) (sym places) ∙ rest-zero (firstRounds s) (length m) (omega (arith, as-many, more)) short in
+      ap (drop (length m)) (sym places) ∙ unused-from (firstRounds s) (length m) (omega (arith, as-many, more)) short in
       ap (λ (f : ℕ → ℕ). map f m ++ drop (length m) (s .since)) same
       ∙ ap (λ (r : List ℕ). map given m ++ r) rest
       ∙ ap (λ (n : ℕ). map given m ++ replicate (maxNumbers - n) 0) (sym (length-map m given))
