@@ -30,12 +30,11 @@ startImageRefusal number bit m n = cond (eqb m imageBytes) (startRefusal number 
 abbrev pub trayImageRefusal : List ℕ → List ℕ → ℕ → ℕ
 trayImageRefusal b t n = cond (soundImage b) (trayRefusal (takenApart b) t n) 1
 
-pub record ImagePromise (refusal : ℕ) (made : View) (rounds imageBefore outBefore : List ℕ) (r : ℕ) (imageAfter outAfter : List ℕ) (lengthAfter : ℕ) : Type 0
-  where
-    pub number : r ≡ refusal
-    pub image : imageAfter ≡ cond (eqb refusal 0) (laidOut (storedState made rounds)) imageBefore
-    pub output : outAfter ≡ cond (eqb refusal 0) (sentBytes made ++ drop (length (sentBytes made)) outBefore) outBefore
-    pub written : lengthAfter ≡ cond (eqb refusal 0) (length (sentBytes made)) 0
+pub record ImagePromise (refusal : ℕ) (made : View) (rounds imageBefore outBefore : List ℕ) (r : ℕ) (imageAfter outAfter : List ℕ) (size : ℕ) : Type 0 where
+  pub number : r ≡ refusal
+  pub image : imageAfter ≡ cond (eqb refusal 0) (laidOut (storedState made rounds)) imageBefore
+  pub output : outAfter ≡ cond (eqb refusal 0) (sentBytes made ++ drop (length (sentBytes made)) outBefore) outBefore
+  pub written : size ≡ cond (eqb refusal 0) (length (sentBytes made)) 0
 
 -- controller_start(number, bit, image, out, length), with image and output before the call, the answer, and all three after it
 abbrev pub StartImagePromise : ℕ → ℕ → List ℕ → List ℕ → ℕ → List ℕ → List ℕ → ℕ → Type 0

@@ -1,6 +1,6 @@
 -- Laws of the order of entries, document 02, "A5. Two different frames under one number": which frame counts does not hang on tray order.
 use Prim.Native.Nat.{ℕ}
-use mathlib.Core.Bool.{true, false, cond}
+use mathlib.Core.Bool.{true, cond}
 use mathlib.Core.List.{List, List·Memᴰ·head, List·Memᴰ·tail, List·Memᴰ·cases-cons, List·Permᴰ, Permᴰ·symm}
 use mathlib.Core.List.{List·Permᴰ·nil, List·Permᴰ·cons, List·Permᴰ·swap, List·Permᴰ·trans}
 use mathlib.Core.Logic.{inl, inr}
@@ -17,6 +17,7 @@ use Rattle.controller.specs.First.{firstsAfter, roundsAfter}
 use Rattle.controller.specs.Refusals.{trayRefusal}
 use Rattle.controller.specs.Calls.{Promise, TrayPromise}
 use Rattle.controller.specs.Laws.Lists.{true-or-false, in-or-not, in-mem, out-mem, rising-same, insert-all-in, insert-all-rising}
+use Rattle.controller.specs.Laws.Refusals.{unsound-refused}
 use Rattle.controller.specs.Laws.State.{sound-gives}
 use Rattle.controller.specs.declared.state.Answer.{Answer}
 use Rattle.controller.specs.declared.state.State.{State}
@@ -71,11 +72,7 @@ module _ {es fs : List Entry} (p : List·Permᴰ es fs) where
 
 -- ---- what a call promises
 
--- an unsound state refuses each tray alike, and what it would have made does not matter
-unsound : (s : State) (b : List ℕ) (n : ℕ) → sound s ≡ false → trayRefusal s b n ≡ 1
-unfolding trayRefusal
-unsound s b n h = rw h
-
+-- what a state that refuses each tray alike would have made does not matter
 keeps : {v w : View} {p q : List ℕ} {s : State} {given left : List ℕ} {r : Answer} → Promise 1 v p s given r left → Promise 1 w q s given r left
 keeps h = record { number = h .number; state = h .state; written = h .written; output = h .output }
 
@@ -101,6 +98,6 @@ module _ (s : State) (b c : List ℕ) (packed : wellFormed b ≡ true) (packed�
   promise-order {given} {left} {r} p = elim (true-or-false (sound s)) [
     | inl h ↦ rw (refusal-order (length given), sound-order h, rounds-order h) at p
     | inr h ↦
-        let refused : trayRefusal s b (length given) ≡ 1 = unsound s b (length given) h in
-        rw (unsound s c (length given) h) (keeps (rw refused at p))
+        let refused : trayRefusal s b (length given) ≡ 1 = unsound-refused s b (length given) h in
+        rw (unsound-refused s c (length given) h) (keeps (rw refused at p))
   ]

@@ -115,3 +115,8 @@ tray-fits s b n f =
       le-leb (length ((receive (view s) es) .heard)) maxNumbers (f .heard),
       lists-fit (view s) es .1 (f .candidates, f .echoes),
     )
+
+-- a state that is not sound refuses each tray alike
+pub unsound-refused : (s : State) (b : List ℕ) (n : ℕ) → sound s ≡ false → trayRefusal s b n ≡ 1
+unfolding trayRefusal
+unsound-refused s b n h = rw h

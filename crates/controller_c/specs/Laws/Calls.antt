@@ -12,7 +12,7 @@ use Rattle.controller.specs.State.{view, storedState, startView, startRounds, s
 use Rattle.controller.specs.First.{roundsAfter}
 use Rattle.controller.specs.Rules.{next}
 use Rattle.controller.specs.Refusals.{startRefusal, trayRefusal}
-use Rattle.controller.specs.Laws.Refusals.{start-accepted, tray-accepted}
+use Rattle.controller.specs.Laws.Refusals.{start-accepted, tray-accepted, unsound-refused}
 use Rattle.controller.specs.Laws.First.{next-stays-sound, start-stays-sound}
 use Rattle.controller.specs.declared.state.State.{State}
 use Rattle.controller_c.specs.Image.{laidOut, takenApart, shaped, soundImage}
@@ -20,10 +20,6 @@ use Rattle.controller_c.specs.Calls.{trayImageRefusal}
 use Rattle.controller_c.specs.Laws.Image.{takenApart-laidOut, laidOut-sound}
 
 -- ---- refusals
-
-unsound-refused : (s : State) (t : List ℕ) (n : ℕ) → sound s ≡ false → trayRefusal s t n ≡ 1
-unfolding trayRefusal
-unsound-refused s t n h = rw h
 
 -- the controller's own first test is the last part of the image's
 pub shaped-refusal : (b t : List ℕ) (n : ℕ) → shaped b ≡ true → trayImageRefusal b t n ≡ trayRefusal (takenApart b) t n

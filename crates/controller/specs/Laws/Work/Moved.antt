@@ -74,7 +74,8 @@ moved-same l w t up short =
     let size : length (map f l) ≡ length l = length-map l f in
     let used : map f l ≡ take (length l) w = ext-getD 0 (map f l) (take (length l) w) (size ∙ sym (length-take-le (length l) w short)) (λ j h.
     let inside : j < length l = omega (arith, size) in
-    getD-inside (map f l) j 0 (f 0) h ∙ List·getD-map f l j 0 ∙ rw (in-mem (getD-in l j inside), rising-at l j up inside) (sym (getD-take (length l) w j 0 inside))) in
+    getD-inside (map f l) j 0 (f 0) h ∙ List·getD-map f l j 0
+    ∙ rw (in-mem (getD-in l j inside), rising-at l j up inside) (sym (getD-take (length l) w j 0 inside))) in
     ap (λ (u : List ℕ). u ++ drop (length l) w) used ∙ take-append-drop (length l) w
 
 -- ---- the record after a tray
