@@ -1,4 +1,5 @@
--- What is claimed of every run: document 01, "The run of demand 3", its last paragraph. One claim about all the lists of a run together.
+-- What is claimed of every run: document 01, "The run of demand 3", its last paragraph; by document 02, "A7. Let decided controllers go quiet", it "must
+-- still hold when proper controllers stop at different rounds". One claim about all the lists of a run together.
 --     Decides n b c      c's list returns a state with decision b by round 3 + 3n, and each later state has it too
 --     Outcome r          the claim
 use Prim.Native.Nat.{ℕ, _+_, _*_, _≤_}
@@ -7,7 +8,7 @@ use mathlib.Core.Logic.{_⊎_, _≢_}
 use mathlib.Core.Path.{_≡_}
 use lib.ListN.{length}
 use Rattle.controller.specs.declared.state.State.{State}
-use Rattle.run.specs.Run.{Member, TrayCall, Controller, states, everyone, Delivers, Run}
+use Rattle.run.specs.Run.{Member, TrayCall, Controller, states, Sent, everyone, Delivers, Run}
 
 -- "each proper controller's list returns a state whose decision is not 2 and whose round is at most 3 + 3n; each later state in the list has
 -- the same decision"
@@ -33,5 +34,6 @@ pub record Outcome (r : Run) : Type 0 where
   -- which sent a frame for t"
   pub refusals : (c : Controller) → Member c (r .correct) → (k : TrayCall) → Member (k .state) (states c)
       → k .state .round ≤ 2 + 3 * length (everyone (r .correct) (r .faulty))
+      → (b : List ℕ) → Sent c (k .state .round) b
       → Delivers (r .correct) (r .faulty) (c .number) (k .state .round) (k .tray)
       → (k .answer .refusal ≡ 0) ⊎ (k .answer .refusal ≡ 3)

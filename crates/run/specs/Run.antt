@@ -1,7 +1,8 @@
--- The run of demand 3: document 01, "The run of demand 3", sentence by sentence.
+-- The run of demand 3: document 01, "The run of demand 3", sentence by sentence, with document 02, "A7. Let decided controllers go quiet".
 --     Place                    where a slice lies that is lent to a call; no promise speaks of it
 --     TrayCall, StartCall      a call with what went in and what came out, and that what its contract ensures holds of them
 --     Controller               a proper controller's list of calls
+--     Made k t b               the call k made round t and gave the frame b
 --     Sent c t b               b is the frame that c sent for round t
 --     Delivers l f p t b       the line's guarantee for a tray b of round t to the controller p, among the proper ones l and the faulty ones f
 --     Run                      a run
@@ -80,11 +81,17 @@ pub record Controller : Type 0 where
 abbrev pub states : Controller → List State
 states c = c .start .answer .state ∷ map (λ (k : TrayCall). k .answer .state) (c .trays)
 
--- "The frame sent for round t is what the call that made round t wrote, up to the returned length; start makes round 1"
+-- the call made round t, and a frame came out with it: where the length is 0 nothing is sent
+pub record Made (k : TrayCall) (t : ℕ) (b : List ℕ) : Type 0 where
+  pub accepted : Accepted k
+  pub round : k .answer .state .round ≡ t
+  pub some : 0 < k .answer .length
+  pub frame : b ≡ take (k .answer .length) (k .after)
+
+-- "The frame sent for round t is what the call that made round t wrote, up to the returned length; start makes round 1"; document 02, A7: "A controller
+-- sends nothing from the round of its decision on: the output length is 0"
 abbrev pub Sent : Controller → ℕ → List ℕ → Type 0
-Sent c t b =
-    ((t ≡ 1) × (b ≡ take (c .start .answer .length) (c .start .after)))
-    ⊎ ((k : TrayCall) × Member k (c .trays) × Accepted k × (k .answer .state .round ≡ t) × (b ≡ take (k .answer .length) (k .after)))
+Sent c t b = ((t ≡ 1) × (b ≡ take (c .start .answer .length) (c .start .after))) ⊎ ((k : TrayCall) × Member k (c .trays) × Made k t b)
 
 -- ---- the line
 
@@ -101,9 +108,10 @@ pub record Delivers (correct : List Controller) (faulty : List ℕ) (receiver t 
   pub round : roundOf tray ≡ t
   -- "each sender in it is one of the other n − 1 numbers"
   pub others : (x : ℕ) → In x (senders (entries tray)) → In x (everyone correct faulty) × (x ≢ receiver)
-  -- "each other proper one has an entry"
-  pub present : (c : Controller) → Member c correct → c .number ≢ receiver → In (c .number) (senders (entries tray))
-  -- "the bytes of every entry under its number are the frame which it sent for round t"
+  -- "each other proper one has an entry", if it sent a frame for round t
+  pub present : (c : Controller) → Member c correct → c .number ≢ receiver → (b : List ℕ) → Sent c t b → In (c .number) (senders (entries tray))
+  -- "the bytes of every entry under its number are the frame which it sent for round t"; document 02, A7: "the line's guarantee brings no entry at all under
+  -- the number of a proper controller that has gone quiet", since that one sent none
   pub frames : (e : Entry) → Member e (entries tray) → (c : Controller) → Member c correct → e .sender ≡ c .number → Sent c t (e .bytes)
 
 -- ---- the run

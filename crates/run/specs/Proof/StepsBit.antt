@@ -7,7 +7,7 @@
 use Prim.Native.Nat.{ℕ, zero, suc, _+_, _≤_, _<_, zero-le}
 use mathlib.Core.Bool.{Bool, true, false, not, cond, _&&_, true≢false, and-eq-true-iff}
 use mathlib.Core.List.{List, [], _∷_}
-use mathlib.Core.Logic.{_⊎_, inl, inr, _↔_}
+use mathlib.Core.Logic.{_⊎_, inl, inr, _↔_, _≢_}
 use mathlib.Core.Option.{Option, some, none}
 use mathlib.Core.Path.{_≡_, refl, sym, ap, _∙_}
 use native.Mathlib.Omega.{arith}
@@ -17,21 +17,22 @@ use lib.ListN.{length}
 use Rattle.controller.specs.Bytes.{Content, kindOf, kindSaid, bitSaid}
 use Rattle.controller.specs.Lists.{In, countIf}
 use Rattle.controller.specs.State.{View, undecided}
-use Rattle.controller.specs.Received.{Received, frameOf, says, opinionIn, count}
-use Rattle.controller.specs.Rotation.{decides}
+use Rattle.controller.specs.Received.{Received, frameOf, standIn, says, opinionIn, count}
 use Rattle.controller.specs.Bit.{phase, kingOpinion, bitTaken, decidesNow, decisionAfter, valueTwoThirds, proposalThird}
 use Rattle.controller.specs.Bit.{proposalTwoThirds, proposal, bitAdopted, strongAfter, opinion}
 use Rattle.controller.specs.Laws.State.{Sound}
 use Rattle.controller.specs.Laws.Thirds.{third-is, two-thirds-is}
-use Rattle.controller.specs.Laws.Received.{frame-says}
+use Rattle.controller.specs.Laws.Received.{frame-says, stand-in-says}
 use Rattle.run.specs.Proof.Counting.{Third, TwoThirds, two-thirds-apart}
+use Rattle.run.specs.Proof.Rotation.{Works}
 use Rattle.run.specs.Proof.Bit.{BitInstance, BitRules, values, ValueTwoThirds, ProposalThird, ProposalTwoThirds}
-use Rattle.run.specs.Proof.Steps.{Steps, all, Timely, StepRules}
+use Rattle.run.specs.Proof.Steps.{Steps, AtWork, StepRules}
 use Rattle.run.specs.Proof.StepsLaws.{few-faulty}
 use Rattle.run.specs.Proof.StepsRotation.{turnRound, valueRound, proposeRound, kind-value, kind-propose}
 use Rattle.run.specs.Proof.StepsRotation.{kind-turn, cond-holds, entering, hadFrom, rotation}
-use Rattle.run.specs.Proof.StepsRotation.{timely-turn, timely-value, timely-propose, made-roster, made-value, made-propose, made-turn, before-same}
-use Rattle.run.specs.Proof.StepsRotation.{undecided-before, undecided-after, phase-here, heard-in-round, received-sent}
+use Rattle.run.specs.Proof.StepsRotation.{made-roster, work-value, made-propose, work-propose, made-turn, work-turn, made-value, before-same}
+use Rattle.run.specs.Proof.StepsRotation.{rests-propose, rests-phase, works-alive, undecided-after, phase-here}
+use Rattle.run.specs.Proof.StepsRotation.{heard-in-round, received-sent, received-quiet}
 
 abbrev pub bitOf : ℕ → Option Content → ℕ
 bitOf k none = 2
@@ -62,13 +63,25 @@ opinion-bit : (o : Option Content) → opinionIn o ≡ bitOf 5 o
 opinion-bit none = refl
 opinion-bit (some c) = refl
 
--- the frame of a sound state has the bit that the state says
-bit-sent : (v : View) (k : ℕ) → Sound v → kindOf (v .round) ≡ k → bitOf k (some (frameOf v)) ≡ v .bit .said
-bit-sent v k h kind =
-    let c = frameOf v in
-    let said : says k (v .bit .said) (some c) ≡ true = frame-says v h k (v .bit .said) ∙ rw (eq-eqb _ _ kind, eq-eqb (v .bit .said) (v .bit .said) refl) refl in
-    let parts = and-eq-true-iff (eqb (kindSaid (c .said)) k) (eqb (bitSaid (c .said)) (v .bit .said)) .0 said in
+-- the bit of a frame of kind k that says b
+bit-said : (k b : ℕ) (c : Content) → says k b (some c) ≡ true → bitOf k (some c) ≡ b
+bit-said k b c said =
+    let parts = and-eq-true-iff (eqb (kindSaid (c .said)) k) (eqb (bitSaid (c .said)) b) .0 said in
     ap (λ t. cond t (bitSaid (c .said)) 2) (parts .0) ∙ eqb-true _ _ (parts .1)
+
+-- a sound state that has not decided, of a round of kind k
+module _ (v : View) (k : ℕ) (h : Sound v) (u : undecided v ≡ true) (kind : kindOf (v .round) ≡ k) where
+  -- its frame has the bit that it says
+  bit-sent : bitOf k (some (frameOf v)) ≡ v .bit .said
+  bit-sent =
+      bit-said k (v .bit .said) (frameOf v)
+      (frame-says v h u k (v .bit .said) ∙ rw (eq-eqb _ _ kind, eq-eqb (v .bit .said) (v .bit .said) refl) refl)
+
+  -- and so has what stands in for one that is silent, but for an opinion
+  bit-stands-in : k ≢ 5 → bitOf k (some (standIn v)) ≡ v .bit .said
+  bit-stands-in other =
+      bit-said k (v .bit .said) (standIn v)
+      (stand-in-says v h u k (v .bit .said) ∙ rw (kind, ne-eqb k 5 other, eq-eqb k k refl, eq-eqb (v .bit .said) (v .bit .said) refl) refl)
 
 count-same : (f g : ℕ → Bool) → ((x : ℕ) → f x ≡ g x) → (l : List ℕ) → countIf f l ≡ countIf g l
 count-same f g same [] = refl
@@ -130,10 +143,6 @@ module _ (v : View) (r : Received) where
       pick true true = refl
       pick true false = refl
 
-  bit-fixed : undecided v ≡ false → bitAdopted v r ≡ v .bit .own
-  unfolding bitAdopted
-  bit-fixed u = rw u refl
-
   strong-is : (eqb (strongAfter v r) 1 ≡ true) ↔ (proposalTwoThirds r (bitAdopted v r) ≡ true)
   unfolding strongAfter
   strong-is = pick (proposalTwoThirds r (bitAdopted v r))
@@ -166,10 +175,6 @@ module _ (v : View) (r : Received) where
   unfolding decisionAfter
   decision-taken d = rw d refl
 
-  decision-kept : undecided v ≡ false → decisionAfter v r ≡ v .bit .decision
-  unfolding decisionAfter decides
-  decision-kept u = rw u refl
-
 -- ---- the bit instance
 
 module _ (S : Steps) where
@@ -191,27 +196,46 @@ module _ (S : Steps) where
   module _ (K : StepRules S) where
     open StepRules K using (differ, begins, a-bit, sound)
 
-    -- from a correct one p has the bit that it said
-    bit-received : {p s t : ℕ} (k : ℕ) → In p correct → In s correct → Timely S t → kindOf t ≡ k
-        → bitOf k (hadFrom S p t s) ≡ (state s t) .bit .said
-    bit-received {p} {s} {t} k i j h kind =
-        ap (bitOf k) (received-sent S K i j h) ∙ bit-sent (state s t) k (sound s t j h) (ap kindOf (K .round s t j h) ∙ kind)
+    -- from a correct one at work p has the bit that it said
+    bit-received : {p s t : ℕ} (k : ℕ) → AtWork S p t → AtWork S s t → kindOf t ≡ k → bitOf k (hadFrom S p t s) ≡ (state s t) .bit .said
+    bit-received {p} {s} {t} k w x kind =
+        ap (bitOf k) (received-sent S K w x) ∙ bit-sent (state s t) k (sound s t x) (x .active) (ap kindOf (K .round s t x) ∙ kind)
 
-    module _ {p s r : ℕ} (i : In p correct) (j : In s correct) (h : suc r ≤ length (all S)) where
-      value-received : bits .valueFrom p r s ≡ bits .value s r
-      value-received =
-          let t = timely-value S h in
-          bit-received 3 i j t (kind-value r) ∙ sound s _ j t .said-value (ap kindOf (K .round s _ j t) ∙ kind-value r)
+    -- from one gone quiet the bit that p itself said, but for an opinion
+    bit-stood-in : {p s t : ℕ} (k : ℕ) → AtWork S p t → In s correct → undecided (state s t) ≡ false → kindOf t ≡ k → k ≢ 5
+        → bitOf k (hadFrom S p t s) ≡ (state p t) .bit .said
+    bit-stood-in {p} {s} {t} k w j d kind other =
+        ap (bitOf k) (received-quiet S K w j d) ∙ bit-stands-in (state p t) k (sound p t w) (w .active) (ap kindOf (K .round p t w) ∙ kind) other
 
-      proposal-received : bits .proposalFrom p r s ≡ bits .proposal s r
-      proposal-received = bit-received 4 i j (timely-propose S h) (kind-propose r)
+    -- a value is the own bit
+    value-said : {p r : ℕ} → Works (rotation S) p (suc r) → (state p (valueRound r)) .bit .said ≡ bits .value p r
+    value-said {p} {r} w =
+        let x = work-value S K w in
+        sound p _ x .said-value (x .active) (ap kindOf (K .round p _ x) ∙ kind-value r)
 
-      opinion-received : bits .opinionFrom p r s ≡ bits .opinion s r
-      opinion-received = opinion-bit (hadFrom S p (turnRound (suc r)) s) ∙ bit-received 5 i j (timely-turn S h) (kind-turn r)
+    module _ {p s r : ℕ} (w : Works (rotation S) p (suc r)) where
+      module _ (x : Works (rotation S) s (suc r)) where
+        value-received : bits .valueFrom p r s ≡ bits .value s r
+        value-received = bit-received 3 (work-value S K w) (work-value S K x) (kind-value r) ∙ value-said x
+
+        proposal-received : bits .proposalFrom p r s ≡ bits .proposal s r
+        proposal-received = bit-received 4 (work-propose S K w) (work-propose S K x) (kind-propose r)
+
+        opinion-received : bits .opinionFrom p r s ≡ bits .opinion s r
+        opinion-received = opinion-bit (hadFrom S p (turnRound (suc r)) s) ∙ bit-received 5 (work-turn S K w) (work-turn S K x) (kind-turn r)
+
+      module _ (j : In s correct) (d : undecided (entering S s (suc r)) ≡ false) where
+        value-stood-in : bits .valueFrom p r s ≡ bits .value p r
+        value-stood-in = bit-stood-in 3 (work-value S K w) j d (kind-value r) (λ e. absurd (omega arith)) ∙ value-said w
+
+        proposal-stood-in : bits .proposalFrom p r s ≡ bits .proposal p r
+        proposal-stood-in =
+            let quiet = ap (λ v. undecided v) (rests-propose S K j (w .timely) d) ∙ d in
+            bit-stood-in 4 (work-propose S K w) j quiet (kind-propose r) (λ e. absurd (omega arith))
 
     -- ---- (a) and (c) of making round 3 + 3r
 
-    module _ {p r : ℕ} (i : In p correct) (h : r ≤ length (all S)) where
+    module _ {p r : ℕ} (w : Works (rotation S) p r) where
       abbrev v : View
       v = state p (turnRound r)
 
@@ -219,28 +243,17 @@ module _ (S : Steps) where
       got = received p (turnRound r)
 
       value-made : (entering S p (suc r)) .bit .own ≡ bitTaken v got
-      value-made = ap (λ w. w .bit .own) (made-value S K i h)
+      value-made = ap (λ w. w .bit .own) (made-value S K w)
 
-      decision-made : (entering S p (suc r)) .bit .decision ≡ decisionAfter v got
-      decision-made = ap (λ w. w .bit .decision) (made-value S K i h)
-
-      decision-own-here : undecided (entering S p r) ≡ true → undecided (entering S p (suc r)) ≡ false
-          → (entering S p (suc r)) .bit .decision ≡ (entering S p (suc r)) .bit .own
-      decision-own-here u d =
-          let fresh = undecided-before S K i r h ∙ u in
+      decision-own-here : undecided (entering S p (suc r)) ≡ false → (entering S p (suc r)) .bit .decision ≡ (entering S p (suc r)) .bit .own
+      decision-own-here d =
           let now : not (decidesNow v got) ≡ false =
-          sym (ap (λ t. t && not (decidesNow v got)) fresh) ∙ sym (undecided-after S K i h) ∙ d in
-          decision-made ∙ decision-taken v got (not-false _ now) ∙ sym value-made
-
-      decision-held-here : undecided (entering S p r) ≡ false → (entering S p (suc r)) .bit .decision ≡ (entering S p r) .bit .decision
-      decision-held-here d =
-          decision-made
-          ∙ decision-kept v got (undecided-before S K i r h ∙ d)
-          ∙ before-same S K i (λ w. w .bit .decision) (λ w m. refl) (λ w m. refl) r h
+          sym (ap (λ t. t && not (decidesNow v got)) (work-turn S K w .active)) ∙ sym (undecided-after S K w) ∙ d in
+          ap (λ w. w .bit .decision) (made-value S K w) ∙ decision-taken v got (not-false _ now) ∙ sym value-made
 
     -- ---- making rounds 4 + 3r and 5 + 3r, and (a) of making the next
 
-    module _ {p r : ℕ} (i : In p correct) (h : suc r ≤ length (all S)) where
+    module _ {p r : ℕ} (w : Works (rotation S) p (suc r)) where
       abbrev valued : View
       valued = state p (valueRound r)
 
@@ -260,7 +273,7 @@ module _ (S : Steps) where
       turnsGot = received p (turnRound (suc r))
 
       good : Sound turned
-      good = sound p (turnRound (suc r)) i (timely-turn S h)
+      good = sound p (turnRound (suc r)) (work-turn S K w)
 
       -- ---- what is proposed
 
@@ -269,7 +282,7 @@ module _ (S : Steps) where
 
       values-apart : valueTwoThirds valuesGot 0 ≡ true → valueTwoThirds valuesGot 1 ≡ true → ⊥
       values-apart x y =
-          let heard = heard-in-round S K i (timely-value S h) in
+          let heard = heard-in-round S K (work-value S K w) in
           two-thirds-apart differ (few-faulty S K) (values (rotation S) bits p r 0) (values (rotation S) bits p r 1) heard heard
           (λ s j t. ne-eqb (bits .valueFrom p r s) 1 (λ e. absurd (omega (arith, eqb-true (bits .valueFrom p r s) 0 t))))
           (value-counted (omega arith) .0 x)
@@ -277,29 +290,26 @@ module _ (S : Steps) where
 
       proposed-here : {b : ℕ} → b < 2 → (proposed .bit .said ≡ b) ↔ ValueTwoThirds (rotation S) bits p r b
       proposed-here {b} bit =
-          let made : proposed .bit .said ≡ proposal valuesGot = ap (λ w. w .bit .said) (made-propose S K i h) in
+          let made : proposed .bit .said ≡ proposal valuesGot = ap (λ w. w .bit .said) (made-propose S K w) in
           let law = proposal-is valued valuesGot b bit values-apart in
           (λ e. value-counted bit .0 (law .0 (sym made ∙ e)), λ t. made ∙ law .1 (value-counted bit .1 t))
 
       -- ---- the own bit, strong, the opinion
 
-      undecided-proposed : undecided proposed ≡ undecided (entering S p (suc r))
-      undecided-proposed = ap (λ w. undecided w) (made-propose S K i h)
-
       third-counted : {b : ℕ} → b < 2 → (proposalThird proposalsGot b ≡ true) ↔ ProposalThird (rotation S) bits p r b
       third-counted bit = proposal-third-is proposed proposalsGot _ bit
 
       own-made : turned .bit .own ≡ bitAdopted proposed proposalsGot
-      own-made = ap (λ w. w .bit .own) (made-turn S K i h)
+      own-made = ap (λ w. w .bit .own) (made-turn S K w)
 
       value-kept : proposed .bit .own ≡ (entering S p (suc r)) .bit .own
-      value-kept = ap (λ w. w .bit .own) (made-propose S K i h)
+      value-kept = ap (λ w. w .bit .own) (made-propose S K w)
 
-      adopted-here : (b c : ℕ) → undecided (entering S p (suc r)) ≡ true → b + c ≡ 1 → ProposalThird (rotation S) bits p r b
+      adopted-here : (b c : ℕ) → b + c ≡ 1 → ProposalThird (rotation S) bits p r b
           → (¬ ProposalThird (rotation S) bits p r c) → turned .bit .own ≡ b
-      adopted-here b c u e third other =
+      adopted-here b c e third other =
           own-made
-          ∙ bit-adopted proposed proposalsGot b c (undecided-proposed ∙ u) e (third-counted (omega arith) .1 third)
+          ∙ bit-adopted proposed proposalsGot b c (work-propose S K w .active) e (third-counted (omega arith) .1 third)
           (iff-false _ (third-counted (omega arith)) other)
 
       kept-here : (ProposalThird (rotation S) bits p r 0 ↔ ProposalThird (rotation S) bits p r 1) → turned .bit .own ≡ (entering S p (suc r)) .bit .own
@@ -310,12 +320,9 @@ module _ (S : Steps) where
           ∙ bit-kept proposed proposalsGot (iff-same _ _ (λ t. one-is .1 (law .0 (zero-is .0 t)), λ t. zero-is .1 (law .1 (one-is .0 t))))
           ∙ value-kept
 
-      fixed-here : undecided (entering S p (suc r)) ≡ false → turned .bit .own ≡ (entering S p (suc r)) .bit .own
-      fixed-here d = own-made ∙ bit-fixed proposed proposalsGot (undecided-proposed ∙ d) ∙ value-kept
-
       strengthened-here : (eqb (turned .bit .strong) 1 ≡ true) ↔ ProposalTwoThirds (rotation S) bits p r (turned .bit .own)
       strengthened-here =
-          let made : turned .bit .strong ≡ strongAfter proposed proposalsGot = ap (λ w. w .bit .strong) (made-turn S K i h) in
+          let made : turned .bit .strong ≡ strongAfter proposed proposalsGot = ap (λ w. w .bit .strong) (made-turn S K w) in
           let law = strong-is proposed proposalsGot in
           let counted = proposal-two-thirds-is proposed proposalsGot (turned .bit .own) (omega (arith, good .bit)) in
           let same = ap (proposalTwoThirds proposalsGot) own-made in (
@@ -323,61 +330,66 @@ module _ (S : Steps) where
             λ c. ap (λ b. eqb b 1) made ∙ law .1 (sym same ∙ counted .1 c),
           )
 
-      opined-here : undecided (entering S p (suc r)) ≡ true → (entering S p (suc r)) .rotor .king ≡ p → turned .bit .said ≡ turned .bit .own
-      opined-here u king =
-          let made : turned .bit .said ≡ opinion proposed proposalsGot = ap (λ w. w .bit .said) (made-turn S K i h) in
-          let named : proposed .rotor .king ≡ p = ap (λ w. w .rotor .king) (made-propose S K i h) ∙ king in
-          made ∙ opinion-own proposed proposalsGot (undecided-proposed ∙ u) (named ∙ sym (K .own p _ i (timely-propose S h))) ∙ sym own-made
+      opined-here : (entering S p (suc r)) .rotor .king ≡ p → turned .bit .said ≡ turned .bit .own
+      opined-here king =
+          let made : turned .bit .said ≡ opinion proposed proposalsGot = ap (λ w. w .bit .said) (made-turn S K w) in
+          let named : proposed .rotor .king ≡ p = ap (λ w. w .rotor .king) (made-propose S K w) ∙ king in
+          let x = work-propose S K w in
+          made ∙ opinion-own proposed proposalsGot (x .active) (named ∙ sym (K .own p _ x)) ∙ sym own-made
 
       -- ---- the next value
 
-      undecided-turned : undecided turned ≡ undecided (entering S p (suc r))
-      undecided-turned = undecided-before S K i (suc r) h
-
       opinion-had : kingOpinion turned turnsGot ≡ bits .opinionFrom p r ((entering S p (suc r)) .rotor .king)
-      opinion-had = ap (bits .opinionFrom p r) (before-same S K i (λ w. w .rotor .king) (λ w m. refl) (λ w m. refl) (suc r) h)
+      opinion-had = ap (bits .opinionFrom p r) (before-same S K (λ w. w .rotor .king) (λ w m. refl) (λ w m. refl) (suc r) w)
 
-      taken-here : undecided (entering S p (suc r)) ≡ true → eqb (turned .bit .strong) 1 ≡ false
+      taken-here : eqb (turned .bit .strong) 1 ≡ false
           → bits .opinionFrom p r ((entering S p (suc r)) .rotor .king) < 2
           → (entering S p (suc (suc r))) .bit .own ≡ bits .opinionFrom p r ((entering S p (suc r)) .rotor .king)
-      taken-here u t bit =
+      taken-here t bit =
           let weak : turned .bit .strong ≡ 0 = omega (arith, eqb-false (turned .bit .strong) 1 t, good .strong) in
-          value-made i h
-          ∙ bit-taken turned turnsGot (omega (arith, phase-here S K i h)) (undecided-turned ∙ u) weak (omega (arith, opinion-had))
+          value-made w
+          ∙ bit-taken turned turnsGot (omega (arith, phase-here S K w)) (work-turn S K w .active) weak (omega (arith, opinion-had))
           ∙ opinion-had
 
-      retained-here : (undecided (entering S p (suc r)) ≡ false) ⊎ (eqb (turned .bit .strong) 1 ≡ true)
-          ⊎ (2 ≤ bits .opinionFrom p r ((entering S p (suc r)) .rotor .king))
+      retained-here : (eqb (turned .bit .strong) 1 ≡ true) ⊎ (2 ≤ bits .opinionFrom p r ((entering S p (suc r)) .rotor .king))
           → (entering S p (suc (suc r))) .bit .own ≡ turned .bit .own
-      retained-here c = value-made i h ∙ bit-retained turned turnsGot (λ later u weak bit. elim c [
-        | inl d ↦ true≢false (sym u ∙ undecided-turned ∙ d)
-        | inr (inl t) ↦ absurd (omega (arith, eqb-true (turned .bit .strong) 1 t))
-        | inr (inr two) ↦ absurd (omega (arith, opinion-had))
+      retained-here c = value-made w ∙ bit-retained turned turnsGot (λ later u weak bit. elim c [
+        | inl t ↦ absurd (omega (arith, eqb-true (turned .bit .strong) 1 t))
+        | inr two ↦ absurd (omega (arith, opinion-had))
       ])
+
+    -- everybody works the first turn
+    works-first : {p : ℕ} → In p correct → Works (rotation S) p 0
+    works-first {p} i = works-alive S K i zero-le (ap (λ v. undecided v) (made-roster S K i) ∙ ap (λ v. undecided v) (begins p i))
 
     pub first-value : {p : ℕ} → In p correct → (entering S p 1) .bit .own ≡ input p
     first-value {p} i =
-        value-made i zero-le
-        ∙ bit-retained (state p 2) _ (λ later u weak bit. absurd (omega (arith, phase-here S K i {r = 0} zero-le)))
+        let w = works-first i in
+        value-made w
+        ∙ bit-retained (state p 2) _ (λ later u weak bit. absurd (omega (arith, phase-here S K w)))
         ∙ ap (λ v. v .bit .own) (made-roster S K i)
         ∙ ap (λ v. v .bit .own) (begins p i)
 
+    -- nobody at work has decided
+    at-work : {p r : ℕ} → Works (rotation S) p r → not (undecided (entering S p r)) ≡ true → ⊥
+    at-work w d = true≢false (sym (w .alive) ∙ not-true _ d)
+
     pub bit-rules : BitRules (rotation S) bits
     bit-rules = record {
-      value-of = λ u j t. value-received (u .observes) j (u .timely);
-      value-own = λ u j t. absurd (true≢false t);
-      proposal-of = λ u j t. proposal-received (u .observes) j (u .timely);
-      proposal-own = λ u j t. absurd (true≢false t);
-      opinion-of = λ u j t. opinion-received (u .observes) j (u .timely);
+      value-of = λ w j t. value-received w (works-alive S K j (w .timely) t);
+      value-own = λ w j d. value-stood-in w j d;
+      proposal-of = λ w j t. proposal-received w (works-alive S K j (w .timely) t);
+      proposal-own = λ w j d. proposal-stood-in w j d;
+      opinion-of = λ w j t. opinion-received w (works-alive S K j (w .timely) t);
       brought = λ {p} i. omega (arith, first-value i, a-bit p i);
-      proposed = λ u. proposed-here (u .observes) (u .timely);
-      adopted = λ b c u d. adopted-here (u .observes) (u .timely) b c (not-false _ d);
-      kept = λ u d. kept-here (u .observes) (u .timely);
-      fixed = λ u d. fixed-here (u .observes) (u .timely) (not-true _ d);
-      strengthened = λ u. strengthened-here (u .observes) (u .timely);
-      opined = λ u j d. opined-here (u .observes) (u .timely) (not-false _ d);
-      taken = λ u d. taken-here (u .observes) (u .timely) (not-false _ d);
-      retained = λ u c. retained-here (u .observes) (u .timely) (elim c [ inl d ↦ inl (not-true _ d) | inr e ↦ inr e ]);
-      decision-own = λ u d e. decision-own-here (u .observes) (u .timely) (not-false _ d) (not-true _ e);
-      decision-held = λ i h d. decision-held-here i h (not-true _ d);
+      proposed = λ w. proposed-here w;
+      adopted = λ b c w d. adopted-here w b c;
+      kept = λ w d. kept-here w;
+      fixed = λ w d. absurd (at-work w d);
+      strengthened = λ w. strengthened-here w;
+      opined = λ w j d. opined-here w;
+      taken = λ w d. taken-here w;
+      retained = λ w c. elim c [ inl d ↦ absurd (at-work w d) | inr e ↦ retained-here w e ];
+      decision-own = λ w d e. decision-own-here w (not-true _ e);
+      decision-held = λ i h d. ap (λ v. v .bit .decision) (rests-phase S K i h (not-true _ d));
     }

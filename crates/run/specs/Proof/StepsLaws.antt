@@ -5,27 +5,27 @@ use mathlib.Core.Bool.{Bool, true, false, cond}
 use mathlib.Core.List.{[], List·Memᴰ·not-nil, List·Memᴰ·eq-of-singleton, Memᴰ·cast, Memᴰ·append-left}
 use mathlib.Core.Logic.{inl, inr}
 use mathlib.Core.Option.{some}
-use mathlib.Core.Path.{_≡_, refl}
+use mathlib.Core.Path.{_≡_, refl, sym, subst}
 use native.Mathlib.Omega.{arith}
 use lib.Dec.{ltb}
 use lib.ListN.{length, length-append}
 use Rattle.controller.specs.Bytes.{kindOf, maxCount}
 use Rattle.controller.specs.Lists.{In, Inside, Rising}
-use Rattle.controller.specs.State.{View}
+use Rattle.controller.specs.State.{View, undecided}
 use Rattle.controller.specs.Received.{Received, frameOf, listIn, lists}
 use Rattle.controller.specs.Thirds.{third}
 use Rattle.controller.specs.Rotation.{tally}
 use Rattle.controller.specs.Rules.{step}
-use Rattle.controller.specs.Laws.Lists.{inside-length, rising-no-repeats, count-short}
+use Rattle.controller.specs.Laws.Lists.{true-or-false, inside-length, rising-no-repeats, count-short}
 use Rattle.controller.specs.Laws.Thirds.{third-is, two-thirds-is}
-use Rattle.controller.specs.Laws.Received.{frame-list}
+use Rattle.controller.specs.Laws.Received.{frame-list, stand-in-list}
 use Rattle.controller.specs.Laws.Rotation.{roster-in, roster-rising, echoed-in, echoed-rising, candidates-in, candidates-rising}
 use Rattle.controller.specs.Laws.Rules.{step-any, step-heard}
 use Rattle.run.specs.Proof.Counting.{Few, Heard, two-thirds-then-third, third-inside}
-use Rattle.run.specs.Proof.Steps.{Steps, all, Reception, Timely, StepRules}
+use Rattle.run.specs.Proof.Steps.{Steps, all, Reception, Timely, AtWork, StepRules}
 
 module _ (S : Steps) where
-  open Steps S using (correct, faulty, state)
+  open Steps S using (correct, faulty, state, received)
 
   -- ---- rounds whose trays keep the guarantee, one after the other
 
@@ -41,7 +41,7 @@ module _ (S : Steps) where
   somebody-heard {p} i got = omega (arith, count-short (λ y. false) p (got .present p i) refl)
 
   module _ (K : StepRules S) where
-    open StepRules K using (differ, few, begins, sound, receives, follows)
+    open StepRules K using (differ, few, begins, sound, receives, follows, rests)
 
     -- document 01's 3f < n
     pub few-faulty : Few (length faulty) (length correct)
@@ -52,10 +52,19 @@ module _ (S : Steps) where
     heard-after-inside : {p t : ℕ} {r : Received} → Inside ((state p t) .rotor .heard) (all S) → Reception S p t r → Inside (r .heard) (all S)
     heard-after-inside before got x i = elim (got .others x i) [ inl j ↦ before x j | inr j ↦ j ]
 
+    -- what each step keeps is kept from round to round: who has decided stays as it is
+    kept-next : (P : View → Type 0) {p t : ℕ} → In p correct → Timely S t → P (state p t)
+        → (AtWork S p t → P (step (state p t) (received p t))) → P (state p (suc t))
+    kept-next P {p} {t} i h before works = elim (true-or-false (undecided (state p t))) [
+      | inl u ↦ let w : AtWork S p t = record { member = i; timely = h; active = u } in subst P (sym (follows p t w)) (works w)
+      | inr d ↦ subst P (sym (rests p t i h d)) before
+    ]
+
     heard-inside : {p : ℕ} → In p correct → (t : ℕ) → Timely S t → Inside ((state p t) .rotor .heard) (all S)
     heard-inside {p} i = timely-holds (λ t. Inside ((state p t) .rotor .heard) (all S))
         (rw (begins p i) (λ x j. Memᴰ·cast (List·Memᴰ·eq-of-singleton j) (Memᴰ·append-left faulty i)))
-        (λ t h before. rw (follows p t i h, step-heard) (heard-after-inside before (receives p t i h)))
+        (λ t h before. kept-next (λ v. Inside (v .rotor .heard) (all S)) i h before
+        (λ w. rw (step-heard (state p t) (received p t)) (heard-after-inside before (receives p t w))))
 
     pub heard-reception : {p t : ℕ} {r : Received} → In p correct → Timely S t → Reception S p t r → Heard correct faulty (r .heard)
     heard-reception {p} {t} {r} i h got = record {
@@ -69,6 +78,7 @@ module _ (S : Steps) where
     abbrev ListsInside : View → Type 0
     ListsInside v = Inside (v .rotor .candidates) (all S) × Inside (v .rotor .echoes) (all S)
 
+    -- a frame's list, and that of what stands in for one that is silent, which is the same
     sent-inside : (v : View) → Inside (v .rotor .echoes) (all S) → Inside (listIn (some (frameOf v))) (all S)
     sent-inside v inside = rw (frame-list v) (pick (ltb 0 (maxCount (kindOf (v .round)))))
       where
@@ -85,7 +95,11 @@ module _ (S : Steps) where
         let l = lists r in
         let some-heard = somebody-heard i got in
         let heard = heard-reception i h got in
-        let sent : (s : ℕ) → In s correct → Inside (listIn (r .from s)) (all S) = λ s j. rw (got .frames s j) (sent-inside (state s t) (before s j .1)) in
+        let sent : (s : ℕ) → In s correct → Inside (listIn (r .from s)) (all S) =
+        λ s j. elim (true-or-false (undecided (state s t))) [
+          | inl u ↦ rw (got .frames s j u) (sent-inside (state s t) (before s j .1))
+          | inr d ↦ rw (got .quiet s j d, stand-in-list v) (sent-inside v (before p i .1))
+        ] in
         let reached : (x : ℕ) → third (tally l x) (length (r .heard)) ≡ true → In x (all S) =
         λ x reach. third-inside differ few-faulty (λ s. listIn (r .from s)) heard sent x (third-is _ _ .0 reach) in
         step-any ListsInside v r
@@ -102,13 +116,13 @@ module _ (S : Steps) where
     lists-inside : (t : ℕ) → Timely S t → (p : ℕ) → In p correct → ListsInside (state p t)
     lists-inside = timely-holds (λ t. (p : ℕ) → In p correct → ListsInside (state p t))
         (λ p i. rw (begins p i) (λ x j. absurd (List·Memᴰ·not-nil j), λ x j. absurd (List·Memᴰ·not-nil j)))
-        (λ t h before p i. rw (follows p t i h) (step-lists-inside i h before (receives p t i h)))
+        (λ t h before p i. kept-next ListsInside i h (before p i) (λ w. step-lists-inside i h before (receives p t w)))
 
-    step-lists-rise : {p t : ℕ} {r : Received} → In p correct → Timely S t → Reception S p t r
+    step-lists-rise : {p t : ℕ} {r : Received} → AtWork S p t → Reception S p t r
         → Rising ((step (state p t) r) .rotor .candidates) × Rising ((step (state p t) r) .rotor .echoes)
-    step-lists-rise {p} {t} {r} i h got =
+    step-lists-rise {p} {t} {r} w got =
         let v = state p t in
-        let good = sound p t i h in
+        let good = sound p t w in
         let kept : Rising (v .rotor .candidates) × Rising (v .rotor .echoes) = (good .candidates .rises, good .echoes .rises) in
         step-any (λ w. Rising (w .rotor .candidates) × Rising (w .rotor .echoes)) v r
         (kept .0, roster-rising r (got .rises))
@@ -117,15 +131,15 @@ module _ (S : Steps) where
         kept
 
     -- no list outgrows the numbers: so no tray that keeps the guarantee is refused under 7 or 8
-    pub reception-fits : (p t : ℕ) → In p correct → Timely S t → (r : Received) → Reception S p t r
+    pub reception-fits : (p t : ℕ) → AtWork S p t → (r : Received) → Reception S p t r
         → (length (r .heard) ≤ length (all S))
         × (length ((step (state p t) r) .rotor .candidates) ≤ length (all S))
         × (length ((step (state p t) r) .rotor .echoes) ≤ length (all S))
-    reception-fits p t i h r got =
-        let heard = heard-reception i h got in
+    reception-fits p t w r got =
+        let heard = heard-reception (w .member) (w .timely) got in
         let made = (step (state p t) r) .rotor in
-        let inside = step-lists-inside i h (lists-inside t h) got in
-        let rise = step-lists-rise i h got in (
+        let inside = step-lists-inside (w .member) (w .timely) (lists-inside t (w .timely)) got in
+        let rise = step-lists-rise w got in (
           inside-length (r .heard) (heard .once) (heard .within),
           inside-length (made .candidates) (rising-no-repeats (made .candidates) (rise .0)) (inside .0),
           inside-length (made .echoes) (rising-no-repeats (made .echoes) (rise .1)) (inside .1),
