@@ -1,4 +1,5 @@
 -- Laws about the definitions, for the proofs of this crate and of the crates above it.
+pub mod Calls
 pub mod Damage
 pub mod Examples
 pub mod First

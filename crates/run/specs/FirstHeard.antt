@@ -1,5 +1,4 @@
 -- What is claimed of every list of calls from a start, worked trays and refused ones of any bytes: document 02, "A8. Show when each section was first heard".
---     stateAfter s ks      the state that the last of the calls ks returned; s where there is none
 --     heard s              those heard in the state s
 --     Brought x ks         a tray of ks was worked that has an entry under x
 --     firstBrought x ks    the round of the first such tray; 0 where there is none
@@ -16,11 +15,7 @@ use Rattle.controller.specs.Lists.{In, mem}
 use Rattle.controller.specs.Received.{senders}
 use Rattle.controller.specs.State.{view}
 use Rattle.controller.specs.declared.state.State.{State}
-use Rattle.run.specs.Run.{Member, TrayCall, Accepted, Controller}
-
-abbrev pub stateAfter : State → List TrayCall → State
-stateAfter s [] = s
-stateAfter s (k ∷ ks) = stateAfter (k .answer .state) ks
+use Rattle.run.specs.Run.{Member, TrayCall, Accepted, Controller, stateAfter}
 
 abbrev pub heard : State → List ℕ
 heard s = (view s) .rotor .heard

@@ -2,6 +2,7 @@
 --     Place                    where a slice lies that is lent to a call; no promise speaks of it
 --     TrayCall, StartCall      a call with what went in and what came out, and that what its contract ensures holds of them
 --     Controller               a proper controller's list of calls
+--     stateAfter s ks          the state that the last of the calls ks returned; s where there is none
 --     Made k t b               the call k made round t and gave the frame b
 --     Sent c t b               b is the frame that c sent for round t
 --     Delivers l f p t b       the line's guarantee for a tray b of round t to the controller p, among the proper ones l and the faulty ones f
@@ -76,6 +77,11 @@ pub record Controller : Type 0 where
   pub started : start .answer .refusal ≡ 0
   pub trays : List TrayCall
   pub handed : HandedOn (start .answer .state) trays
+
+-- the state that the last of the calls returned, s where there is none
+abbrev pub stateAfter : State → List TrayCall → State
+stateAfter s [] = s
+stateAfter s (k ∷ ks) = stateAfter (k .answer .state) ks
 
 -- the states that a controller's calls return, in order
 abbrev pub states : Controller → List State

@@ -140,13 +140,6 @@ module _ (v : View) (r : Received) where
   pub step-heard : (step v r) .rotor .heard ≡ r .heard
   step-heard = step-any (λ w. w .rotor .heard ≡ r .heard) v r refl refl refl refl
 
-  -- a decided state keeps its decision and its bit
-  pub decided-kept : undecided v ≡ false → ((step v r) .bit .decision ≡ v .bit .decision) × ((step v r) .bit .own ≡ v .bit .own)
-  unfolding decisionAfter decides bitTaken bitAdopted
-  decided-kept h =
-      step-any (λ w. (w .bit .decision ≡ v .bit .decision) × (w .bit .own ≡ v .bit .own)) v r
-      (refl, refl) (rw h, rw (h, and-false (ltb 0 (phase v)))) (refl, refl) (refl, rw h)
-
 -- ---- the bits are in range
 
 choice-bound : (t : Bool) (a b n : ℕ) → (t ≡ true → a ≤ n) → b ≤ n → cond t a b ≤ n

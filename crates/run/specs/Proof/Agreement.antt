@@ -1,5 +1,5 @@
 -- Demand 3: every run has the outcome that document 01 claims. The run is steps of the published rules, for which the protocol gives the deadline,
--- agreement, validity and the lists' bounds; past round 3 + 3n a decision is kept whatever the trays.
+-- agreement, validity and the lists' bounds; a decided state stays, whatever the trays.
 use Prim.Native.Nat.{ℕ, _+_, _*_, _≤_}
 use mathlib.Core.Bool.{true}
 use mathlib.Core.List.{List, Memᴰ·map}
@@ -11,18 +11,18 @@ use lib.Dec.{leb}
 use lib.ListN.{length, length-append}
 use Rattle.controller.specs.Bytes.{maxFrame, Entry, entries}
 use Rattle.controller.specs.Lists.{In}
-use Rattle.controller.specs.State.{View, view, sound}
+use Rattle.controller.specs.State.{View, view, undecided, sound}
 use Rattle.controller.specs.Received.{receive}
 use Rattle.controller.specs.Rules.{next}
 use Rattle.controller.specs.Laws.Lists.{true-or-false, list-some}
 use Rattle.controller.specs.Laws.Refusals.{Fits, tray-fits}
 use Rattle.controller.specs.declared.state.State.{State}
-use Rattle.run.specs.Run.{Member, TrayCall, Controller, states, numbers, Delivers, Run}
+use Rattle.run.specs.Run.{Member, TrayCall, Controller, states, Sent, numbers, Delivers, Run}
 use Rattle.run.specs.Outcome.{Decides, Outcome}
-use Rattle.run.specs.Proof.Steps.{Steps, Timely}
+use Rattle.run.specs.Proof.Steps.{Steps, AtWork}
 use Rattle.run.specs.Proof.Protocol.{deadline, agree, valid, reception-fits}
-use Rattle.run.specs.Proof.Calls.{accepted-fits, given-listed, state-one, state-round, state-own, decides-by}
-use Rattle.run.specs.Proof.RunSteps.{size, steps, state-made, call-made, input-at, state-at, each-number, delivers-reception, step-rules}
+use Rattle.run.specs.Proof.Calls.{accepted-fits, given-listed, state-one, state-round, state-own, sent-state, decides-by}
+use Rattle.run.specs.Proof.RunSteps.{size, at-most, steps, state-held, input-at, state-at, call-made, each-number, delivers-reception, step-rules}
 
 module _ (r : Run) where
   open Run r using (correct, faulty)
@@ -49,10 +49,11 @@ module _ (r : Run) where
   decision-decides : (p : ℕ) → In p correctNumbers → (c : Controller) → Member c correct → Decides (size r) (decisionOf p) c
   unfolding decisionOf
   decision-decides p i c j =
-      let (s, m, t) = state-made r j (3 + 3 * size r) (omega arith) (omega arith) in
-      let own : decisionOf (c .number) ≡ s .decision = ap (λ (v : View). v .bit .decision) (state-at r j s m t) in
+      let m = state-held r j (3 + 3 * size r) (omega arith) (omega arith) in
+      let s = m .held in
+      let own : decisionOf (c .number) ≡ s .decision = ap (λ (v : View). v .bit .decision) (state-at r j s (m .listed) (m .at)) in
       let same : s .decision ≡ decisionOf p = sym own ∙ agree (steps r) (step-rules r) (c .number) p (correct-number j) i in
-      subst (λ b. Decides (size r) b c) same (decides-by c (size r) s m (omega arith) (λ e. decision-made p i (sym same ∙ e)))
+      subst (λ b. Decides (size r) b c) same (decides-by c (size r) s (m .listed) (at-most s (m .at)) (λ e. decision-made p i (sym same ∙ e)))
 
   decision-valid : (p : ℕ) → In p correctNumbers → (c : Controller) × Member c correct × (c .start .bit ≡ decisionOf p)
   unfolding decisionOf
@@ -70,25 +71,36 @@ module _ (r : Run) where
       × (length ((next v es) .rotor .candidates) ≤ size r)
       × (length ((next v es) .rotor .echoes) ≤ size r)
 
-  -- a state of round t is the one that the tray of round t was worked with, so it is sound
-  state-sound : {c : Controller} → Member c correct → (s : State) → Member s (states c) → Timely (steps r) (s .round) → sound s ≡ true
-  state-sound {c} i s j h =
-      let u = call-made r i (s .round) h in
+  -- a state for whose round the controller sent a frame is one that it works a tray with
+  state-works : {c : Controller} → Member c correct → (s : State) → Member s (states c) → s .round ≤ 2 + 3 * size r → {b : List ℕ} → Sent c (s .round) b
+      → AtWork (steps r) (c .number) (s .round)
+  state-works {c} i s j h sent =
+      let f = sent-state c sent in
+      record {
+        member = correct-number i;
+        timely = record { first = state-round c s j; last = h };
+        active = ap (λ v. undecided v) (state-at r i (f .state) (f .listed) (inl (f .round))) ∙ f .active;
+      }
+
+  -- so it is sound
+  state-sound : {c : Controller} → Member c correct → (s : State) → Member s (states c) → AtWork (steps r) (c .number) (s .round) → sound s ≡ true
+  state-sound {c} i s j w =
+      let u = call-made r i (s .round) w in
       subst (λ (x : State). sound x ≡ true) (state-one c (u .call .state) s (given-listed c (u .listed)) j (u .round))
       (accepted-fits (u .call) (u .accepted) .state)
 
-  delivers-fits : {c : Controller} → Member c correct → (s : State) → Member s (states c) → s .round ≤ 2 + 3 * size r
+  delivers-fits : {c : Controller} → Member c correct → (s : State) → Member s (states c) → AtWork (steps r) (c .number) (s .round)
       → (b : List ℕ) → Delivers correct faulty (c .number) (s .round) b → Fits s b
-  delivers-fits {c} i s j h b d =
-      let timely : Timely (steps r) (s .round) = record { first = state-round c s j; last = h } in
+  delivers-fits {c} i s j w b d =
       let p = c .number in
-      let l = correct-number i in
-      let got = delivers-reception r p (s .round) l timely b d in
+      let at = state-at r i s j (inl refl) in
+      let got = delivers-reception r p (s .round) w b d in
       let lists : ListsFit (view s) (entries b) =
-      subst (λ v. ListsFit v (entries b)) (state-at r i s j refl) (reception-fits (steps r) (step-rules r) p (s .round) l timely _ got) in
+      subst (λ v. ListsFit v (entries b)) at (reception-fits (steps r) (step-rules r) p (s .round) w _ got) in
       record {
-        state = state-sound i s j timely;
-        early = omega (arith, r .size .1);
+        state = state-sound i s j w;
+        early = omega (arith, r .size .1, w .timely .last);
+        active = subst (λ v. undecided v ≡ true) at (w .active);
         packed = d .packed;
         round = d .round;
         nonzero = λ z. r .nonzero 0 (d .others 0 z .0) refl;
@@ -99,9 +111,11 @@ module _ (r : Run) where
       }
 
   refused-room : (c : Controller) → Member c correct → (k : TrayCall) → Member (k .state) (states c) → k .state .round ≤ 2 + 3 * size r
+      → (b : List ℕ) → Sent c (k .state .round) b
       → Delivers correct faulty (c .number) (k .state .round) (k .tray) → (k .answer .refusal ≡ 0) ⊎ (k .answer .refusal ≡ 3)
-  refused-room c i k j h d =
-      let e = k .promise .number ∙ tray-fits (k .state) (k .tray) (length (k .before)) (delivers-fits i (k .state) j h (k .tray) d) in
+  refused-room c i k j h b sent d =
+      let fits = delivers-fits i (k .state) j (state-works i (k .state) j h sent) (k .tray) d in
+      let e = k .promise .number ∙ tray-fits (k .state) (k .tray) (length (k .before)) fits in
       elim (true-or-false (leb maxFrame (length (k .before)))) [ inl t ↦ inl (rw t at e) | inr t ↦ inr (rw t at e) ]
 
   -- demand 3

@@ -6,7 +6,7 @@
 --     returned ks            the states that the calls ks return
 --     FirstDecided u s ks    the list of states split at the first with a decision
 use Prim.Native.Nat.{ℕ, suc, _+_, _*_, _≤_, _<_}
-use mathlib.Core.Bool.{true, false}
+use mathlib.Core.Bool.{true, false, true≢false}
 use mathlib.Core.List.{List, [], _∷_, _++_, map, List·Memᴰ·head, List·Memᴰ·tail, List·Memᴰ·cases-cons, List·Memᴰ·not-nil, List·Memᴰ·eq-of-singleton, Memᴰ·map}
 use mathlib.Core.Logic.{_⊎_, inl, inr, _≢_}
 use mathlib.Core.Path.{_≡_, refl, sym, ap, _∙_, subst}
@@ -17,14 +17,15 @@ use lib.Dec.{eqb}
 use lib.ListN.{length, take}
 use lib.Seq.{take-append-seam}
 use Rattle.controller.specs.Bytes.{entries}
-use Rattle.controller.specs.State.{View, view, storedState, startView, startRounds}
+use Rattle.controller.specs.State.{View, view, undecided, storedState, startView, startRounds}
 use Rattle.controller.specs.First.{roundsAfter}
 use Rattle.controller.specs.Received.{Received, receive}
 use Rattle.controller.specs.Rules.{next}
 use Rattle.controller.specs.Calls.{Promise, sentBytes}
+use Rattle.controller.specs.Laws.Calls.{sent-something, sender-undecided}
 use Rattle.controller.specs.Laws.Lists.{true-or-false}
 use Rattle.controller.specs.Laws.Refusals.{Fits, start-accepted, tray-accepted}
-use Rattle.controller.specs.Laws.Rules.{step-own, step-round, decided-kept}
+use Rattle.controller.specs.Laws.Rules.{step-own, step-round}
 use Rattle.controller.specs.Laws.State.{view-stored}
 use Rattle.controller.specs.declared.state.State.{State}
 use Rattle.controller.specs.declared.state.Answer.{Answer}
@@ -35,13 +36,14 @@ use Rattle.run.specs.Outcome.{Decides}
 
 pub record Returns (v : View) (p : List ℕ) (a : Answer) (after : List ℕ) : Type 0 where
   pub state : a .state ≡ storedState v p
+  pub size : a .length ≡ length (sentBytes v)
   pub frame : take (a .length) after ≡ sentBytes v
 
 promise-makes : {n : ℕ} {v : View} {p : List ℕ} {s : State} {before : List ℕ} {a : Answer} {after : List ℕ}
     → Promise n v p s before a after → a .refusal ≡ 0 → Returns v p a after
 promise-makes {n} {v} h e =
     let t : eqb n 0 ≡ true = eq-eqb n 0 (sym (h .number) ∙ e) in
-    record { state = rw t at (h .state); frame = rw (h .written, h .output, t) (take-append-seam (sentBytes v) _) }
+    record { state = rw t at (h .state); size = rw t at (h .written); frame = rw (h .written, h .output, t) (take-append-seam (sentBytes v) _) }
 
 pub promise-keeps : {n : ℕ} {v : View} {p : List ℕ} {s : State} {before : List ℕ} {a : Answer} {after : List ℕ}
     → Promise n v p s before a after → a .refusal ≢ 0 → a .state ≡ s
@@ -53,6 +55,10 @@ makes-view {v} {p} m = ap view (m .state) ∙ view-stored v p
 -- what a call wrote, up to the returned length, is the frame of the state that it returned
 makes-sent : {v : View} {p : List ℕ} {a : Answer} {after : List ℕ} → Returns v p a after → take (a .length) after ≡ sentBytes (view (a .state))
 makes-sent m = m .frame ∙ ap sentBytes (sym (makes-view m))
+
+-- and of as many bytes
+makes-size : {v : View} {p : List ℕ} {a : Answer} {after : List ℕ} → Returns v p a after → a .length ≡ length (sentBytes (view (a .state)))
+makes-size m = m .size ∙ ap (λ (w : View). length (sentBytes w)) (sym (makes-view m))
 
 -- what it received
 abbrev pub receivedWith : TrayCall → Received
@@ -151,14 +157,28 @@ accepted-one s (m ∷ ks) h k l i j w x e = elim (List·Memᴰ·cases-cons i) [
 
 -- ---- decisions along the list
 
--- a decision is kept, whatever the trays
-decision-kept : (b : ℕ) → b ≢ 2 → (s : State) (ks : List TrayCall) → HandedOn s ks → s .decision ≡ b
-    → (u : State) → Member u (s ∷ returned ks) → u .decision ≡ b
-decision-kept b made s ks h e = holds-along (λ u. u .decision ≡ b) s ks h e
-    (λ k i w d.
-    ap (λ (u : State). u .decision) (accepted-makes k w .state)
-    ∙ decided-kept (view (k .state)) (receivedWith k) (ne-eqb _ _ (λ z. made (sym d ∙ z))) .0
-    ∙ d)
+-- a decided state works no tray
+decided-refuses : (k : TrayCall) → undecided (view (k .state)) ≡ false → ¬ Accepted k
+decided-refuses k d w = true≢false (sym (accepted-fits k w .active) ∙ d)
+
+-- so it stays, whatever the trays
+pub decided-stays : (s : State) (ks : List TrayCall) → HandedOn s ks → undecided (view s) ≡ false → (u : State) → Member u (s ∷ returned ks) → u ≡ s
+decided-stays s ks h d = holds-along (λ u. u ≡ s) s ks h refl
+    (λ k i w e. absurd (decided-refuses k (ap (λ (u : State). undecided (view u)) e ∙ d) w))
+
+-- no state of the list is of a later round than a decided one
+decided-last : (s : State) (ks : List TrayCall) → HandedOn s ks → (u v : State) → Member u (s ∷ returned ks) → Member v (s ∷ returned ks)
+    → undecided (view u) ≡ false → u .round ≤ v .round → v ≡ u
+decided-last s [] h u v i j d l = List·Memᴰ·eq-of-singleton j ∙ sym (List·Memᴰ·eq-of-singleton i)
+decided-last s (k ∷ ks) h u v i j d l = elim (List·Memᴰ·cases-cons i) [
+  | inl a ↦ decided-stays s (k ∷ ks) h (ap (λ (x : State). undecided (view x)) (sym a) ∙ d) v j ∙ sym a
+  | inr m ↦ elim (List·Memᴰ·cases-cons j) [
+    | inl b ↦
+        let rounds : u .round ≡ s .round = omega (arith, round-later s (k ∷ ks) h u i, ap (λ (x : State). x .round) b) in
+        b ∙ sym (round-first s (k ∷ ks) h u i rounds)
+    | inr n ↦ decided-last (k .answer .state) ks (h .1) u v m n d l
+  ]
+]
 
 -- the decided state u is that first one or stands behind it
 record FirstDecided (u s : State) (ks : List TrayCall) : Type 0 where
@@ -243,22 +263,55 @@ module _ (c : Controller) where
       (ap (λ (s : State). s .own) (start-returns .state))
       (λ k i w e. ap (λ (s : State). s .own) (accepted-makes k w .state) ∙ step-own (view (k .state)) (receivedWith k) ∙ e)
 
-  -- each state of the list was made by the start or by a tray that was worked, with its frame
-  pub state-sent : (s : State) → Member s (states c) → Sent c (s .round) (sentBytes (view s))
-  state-sent = holds-along (λ s. Sent c (s .round) (sentBytes (view s))) (start .answer .state) trays handed
-      (inl (start-round, sym (makes-sent start-returns)))
-      (λ k i w h. inr (k, i, w, refl, sym (makes-sent (accepted-makes k w))))
+  pub start-undecided : undecided (view (start .answer .state)) ≡ true
+  start-undecided = ap (λ (v : View). undecided v) (makes-view start-returns)
 
-  -- and a frame that was sent is that of a state in the list
-  pub sent-state : {t : ℕ} {b : List ℕ} → Sent c t b → (s : State) × Member s (states c) × (s .round ≡ t) × (b ≡ sentBytes (view s))
-  sent-state (inl h) = (start .answer .state, start-listed, start-round ∙ sym (h .0), h .1 ∙ makes-sent start-returns)
-  sent-state (inr h) = (h .0 .answer .state, returned-listed (h .1), h .3, h .4 ∙ makes-sent (accepted-makes (h .0) (h .2)))
+  -- a decided state is the last
+  pub state-last : (u v : State) → Member u (states c) → Member v (states c) → undecided (view u) ≡ false → u .round ≤ v .round → v ≡ u
+  state-last = decided-last (start .answer .state) trays handed
+
+  -- each state of the list was made by the start or by a tray that was worked, and one that has not decided with its frame
+  pub state-sent : (s : State) → Member s (states c) → undecided (view s) ≡ true → Sent c (s .round) (sentBytes (view s))
+  state-sent = holds-along (λ s. undecided (view s) ≡ true → Sent c (s .round) (sentBytes (view s))) (start .answer .state) trays handed
+      (λ u. inl (start-round, sym (makes-sent start-returns)))
+      (λ k i w h u.
+      let m = accepted-makes k w in
+      let some : 0 < k .answer .length = rw (makes-size m) (sent-something (view (k .answer .state)) u) in
+      inr (k, i, record { accepted = w; round = refl; some = some; frame = sym (makes-sent m) }))
+
+  -- and a frame that was sent is that of such a state in the list
+  pub record FrameOf (t : ℕ) (b : List ℕ) : Type 0 where
+    pub state : State
+    pub listed : Member state (states c)
+    pub round : state .round ≡ t
+    pub active : undecided (view state) ≡ true
+    pub bytes : b ≡ sentBytes (view state)
+
+  pub sent-state : {t : ℕ} {b : List ℕ} → Sent c t b → FrameOf t b
+  sent-state (inl h) =
+      record {
+        state = start .answer .state;
+        listed = start-listed;
+        round = start-round ∙ sym (h .0);
+        active = start-undecided;
+        bytes = h .1 ∙ makes-sent start-returns;
+      }
+  sent-state (inr (k, i, h)) =
+      let m = accepted-makes k (h .accepted) in
+      record {
+        state = k .answer .state;
+        listed = returned-listed i;
+        round = h .round;
+        active = sender-undecided (view (k .answer .state)) (rw (makes-size m) at (h .some));
+        bytes = h .frame ∙ makes-sent m;
+      }
 
   -- a controller with a decided state has decided in the first such, and keeps to it
   pub decides-by : (n : ℕ) (u : State) → Member u (states c) → u .round ≤ 3 + 3 * n → u .decision ≢ 2 → Decides n (u .decision) c
   decides-by n u i t made =
       let f = first-decided u (start .answer .state) trays handed i made in
-      let all = decision-kept (f .state .decision) (f .decided) (f .state) (f .calls) (f .handed) refl in
+      let stays = decided-stays (f .state) (f .calls) (f .handed) (ne-eqb _ _ (f .decided)) in
+      let reached = ap (λ (s : State). s .decision) (stays u (f .reaches)) in
       record {
         earlier = f .earlier;
         deciding = f .state;
@@ -266,6 +319,6 @@ module _ (c : Controller) where
         order = f .split;
         undecided = f .undecided;
         timely = omega (arith, round-later (f .state) (f .calls) (f .handed) u (f .reaches));
-        decision = sym (all u (f .reaches));
-        kept = λ v m. all v (List·Memᴰ·tail m) ∙ sym (all u (f .reaches));
+        decision = sym reached;
+        kept = λ v m. ap (λ (s : State). s .decision) (stays v (List·Memᴰ·tail m)) ∙ sym reached;
       }

@@ -19,9 +19,9 @@ use Rattle.controller.specs.Lists.{In}
 use Rattle.controller.specs.Received.{senders}
 use Rattle.controller.specs.State.{View, view, firstRounds}
 use Rattle.controller.specs.declared.state.State.{State}
-use Rattle.run.specs.FirstHeard.{stateAfter, heard, Brought, firstBrought, FirstHeard}
+use Rattle.run.specs.FirstHeard.{heard, Brought, firstBrought, FirstHeard}
 use Rattle.run.specs.Proof.Calls.{makes-view, receivedWith, madeBy, accepted-fits, accepted-makes, accepted-or-kept, promise-keeps, start-returns, given-listed, state-own}
-use Rattle.run.specs.Run.{Member, TrayCall, Accepted, HandedOn, Controller}
+use Rattle.run.specs.Run.{Member, TrayCall, Accepted, HandedOn, Controller, stateAfter}
 
 -- ---- one call that works
 

@@ -29,7 +29,7 @@ module _ (S : Steps) where
 
   -- ---- rounds whose trays keep the guarantee, one after the other
 
-  timely-holds : (P : ℕ → Type 0) → P 1 → ((t : ℕ) → Timely S t → P t → P (suc t)) → (t : ℕ) → Timely S t → P t
+  pub timely-holds : (P : ℕ → Type 0) → P 1 → ((t : ℕ) → Timely S t → P t → P (suc t)) → (t : ℕ) → Timely S t → P t
   timely-holds P start next zero h = absurd (omega (arith, h .first))
   timely-holds P start next (suc zero) h = start
   timely-holds P start next (suc (suc t)) h =
