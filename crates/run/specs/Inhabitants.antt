@@ -1,4 +1,4 @@
--- Two runs, so that nobody need wonder whether the conditions contradict each other.
+-- Three runs, so that nobody need wonder whether the conditions contradict each other.
 pub mod RunTest
 pub mod Played
 pub mod Inhabited

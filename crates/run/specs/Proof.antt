@@ -18,3 +18,5 @@ pub mod RunSteps
 pub mod Agreement
 -- Of a list of calls by itself: that the record has the round of the first tray that brought a number.
 pub mod FirstHeard
+-- Likewise: that a decided controller is quiet.
+pub mod Quiet

@@ -1,27 +1,29 @@
--- Two runs: nobody need wonder whether the conditions of `Run` contradict each other.
+-- Three runs: nobody need wonder whether the conditions of `Run` contradict each other.
 --     alone         one controller, number 7 and bit 1; it gets empty trays
 --     oneFaulty     document 01's last trial, as the controller's Examples has it: proper 5, 7, 9 with the bits 0, 1, 1, and faulty 3
+--     apart         proper 5, 7, 9 and faulty 3, which makes them stop at different rounds: 7 and 9 decide in round 12, 5 in round 15
 --     Has r f       some proper one of the run r has a call that passes f; of these `faulty-short` and the like speak
--- In both runs each tray comes after bytes that are no tray, then with too small a buffer, then with room. In `oneFaulty` the first entry of each tray comes
--- twice. Past round 2 + 3n there are two trays more: one with an unknown sender's entry only, and an empty one.
-use Prim.Native.Nat.{ℕ, zero, suc}
-use mathlib.Core.Bool.{Bool, true, _&&_}
+-- In each run each tray comes after bytes that are no tray, then with too small a buffer, then with room; so it goes on after a decision, where all are
+-- refused. The first entry of each tray comes twice. Past round 2 + 3n there are two trays more: one with an unknown sender's entry only, and an empty one.
+use Prim.Native.Nat.{ℕ, zero, suc, _%_}
+use mathlib.Core.Bool.{Bool, true, not, cond, _&&_, _||_}
 use mathlib.Core.List.{List, [], _∷_, _++_, map}
 use mathlib.Core.Path.{_≡_, refl}
-use lib.Dec.{eqb, ltb}
+use lib.Dec.{eqb, leb, ltb}
+use lib.ListN.{length}
 use Rattle.controller.specs.Bytes.{maxFrame, Entry, roundOf, entryCount, sender, wellFormed, part, entries, kindOf, chosenBy, saidBy}
 use Rattle.controller.specs.Bytes.{bitFits, maxCount, lengthFits, roundFits, headFits, bodyFits, readRefusal, content, frameBytes}
 use Rattle.controller.specs.Lists.{mem, countIf}
 use Rattle.controller.specs.Thirds.{third, twoThirds}
-use Rattle.controller.specs.State.{View, startView, same, soundRules, soundBeside, sound}
+use Rattle.controller.specs.State.{View, undecided, startView, same, soundRules, soundBeside, sound}
 use Rattle.controller.specs.First.{firstsAfter}
-use Rattle.controller.specs.Received.{frameOf, senders, receive}
+use Rattle.controller.specs.Received.{frameOf, standIn, senders, receive}
 use Rattle.controller.specs.Rotation.{roster, tally, mentioned, echoed, joined, candidatesAfter, decides, kingAfter}
-use Rattle.controller.specs.Bit.{bitTaken, decisionAfter, valueTwoThirds, proposalThird, proposalTwoThirds, proposal, bitAdopted, strongAfter, opinion}
+use Rattle.controller.specs.Bit.{bitTaken, decisionAfter, valueSaid, valueTwoThirds, proposalThird, proposalTwoThirds, proposal, bitAdopted, strongAfter, opinion}
 use Rattle.controller.specs.Rules.{step, next}
 use Rattle.controller.specs.Refusals.{startRefusal, trayRefusal}
 use Rattle.run.specs.Run.{Member, TrayCall, Controller, Run}
-use Rattle.run.specs.Inhabitants.RunTest.{somePass, some-pass, deliversTest, runTest, run-tested}
+use Rattle.run.specs.Inhabitants.RunTest.{allPass, somePass, some-pass, deliversTest, runTest, run-tested}
 use Rattle.controller.specs.Examples.{fromThree, fromOthers, packed, starts}
 use Rattle.run.specs.Inhabitants.Played.{Input, controller}
 
@@ -50,35 +52,49 @@ module _ (lies : ℕ → ℕ → List Entry) where
   brought vs p t = firstTwice (fromOthers p vs) ++ lies t p
 
   abbrev stepped : List View → ℕ → List View
-  stepped vs t = map (λ (v : View). next v (brought vs (v .own) t)) vs
+  stepped vs t = map (λ (v : View). cond (undecided v) (next v (brought vs (v .own) t)) v) vs
 
   -- p's inputs of n rounds from t on, where the proper ones have the states vs in round t, and two after these
   abbrev inputs : ℕ → ℕ → ℕ → List View → List Input
   inputs p t zero vs = afterwards t
   inputs p t (suc n) vs = offered (packed t (brought vs p t)) (inputs p (suc t) n (stepped vs t))
 
--- ---- the two lines
+-- ---- the lines
 
 abbrev nobodyLies : ℕ → ℕ → List Entry
 nobodyLies t p = []
 
-abbrev pub one : List Controller
+abbrev one : List Controller
 one = controller 7 1 refl (inputs nobodyLies 7 1 5 (startView 7 1 ∷ [])) ∷ []
 
-abbrev inputsOf : ℕ → List Input
-inputsOf p = inputs fromThree p 1 14 (starts 0 1 1)
+-- proper 5, 7, 9 with the bits 0, 1, 1, through the rounds of a line of four
+module _ (lies : ℕ → ℕ → List Entry) where
+  abbrev inputsOf : ℕ → List Input
+  inputsOf p = inputs lies p 1 14 (starts 0 1 1)
 
-abbrev pub five : Controller
-five = controller 5 0 refl (inputsOf 5)
+  abbrev three : List Controller
+  three = controller 5 0 refl (inputsOf 5) ∷ controller 7 1 refl (inputsOf 7) ∷ controller 9 1 refl (inputsOf 9) ∷ []
 
-abbrev pub seven : Controller
-seven = controller 7 1 refl (inputsOf 7)
+abbrev joining : List Controller
+joining = three fromThree
 
-abbrev pub nine : Controller
-nine = controller 9 1 refl (inputsOf 9)
+-- The faulty 3 keeps itself echoed by one proper controller or two, and in round 11 gives its own voice to 5 alone: only there it has two thirds. A voice is a
+-- roster or a turn that lists just 3.
+abbrev voice : ℕ → ℕ → Bool
+voice t p = (eqb t 2 && eqb p 7) || (eqb t 5 && eqb p 9) || (eqb t 8 && not (eqb p 9)) || (eqb t 11 && eqb p 5)
 
-abbrev pub four : List Controller
-four = five ∷ seven ∷ nine ∷ []
+-- it sends init to 5, its voice in the rounds of lists, and void frames to whom it denies that: silence would count as the receiver's own list. With values it
+-- tells 5 and 7 different things, and 9 has an entry of length 0; it is silent in the rest
+abbrev dividing : ℕ → ℕ → List Entry
+dividing t p =
+    cond (eqb t 1) (cond (eqb p 5) (entry 3 (0 ∷ 0 ∷ 0 ∷ 1 ∷ 1 ∷ 2 ∷ 0 ∷ 0 ∷ []) ∷ []) [])
+    (cond (eqb (t % 3) 2) (cond (voice t p) (entry 3 (0 ∷ 0 ∷ 0 ∷ t ∷ cond (eqb t 2) 2 5 ∷ 2 ∷ 0 ∷ 1 ∷ 0 ∷ 0 ∷ 0 ∷ 3 ∷ []) ∷ []) (entry 3 junk ∷ []))
+    (cond (eqb (t % 3) 0)
+    (cond (eqb p 9) (entry 3 [] ∷ []) (entry 3 (0 ∷ 0 ∷ 0 ∷ t ∷ 3 ∷ cond (eqb p 5) 1 0 ∷ 0 ∷ 0 ∷ []) ∷ []))
+    []))
+
+abbrev divided : List Controller
+divided = three dividing
 
 -- ---- what the machine works out of them
 
@@ -89,49 +105,66 @@ callTest l f = somePass (λ (c : Controller). somePass (f c) (c .trays)) l
 abbrev pub refused : ℕ → TrayCall → Bool
 refused n k = eqb (k .answer .refusal) n
 
--- the tray keeps the guarantee for the round that the controller is in
-abbrev pub keeps : Controller → TrayCall → Bool
-keeps c k = deliversTest four (3 ∷ []) (c .number) (k .state .round) (k .tray)
-
 -- bytes that are no tray
 abbrev pub junked : Controller → TrayCall → Bool
 junked c k = refused 4 k
 
--- a tray that keeps the guarantee is refused for want of room; another call works it
-abbrev pub short : Controller → TrayCall → Bool
-short c k = refused 3 k && keeps c k && somePass (λ (l : TrayCall). refused 0 l && same (l .tray) (k .tray)) (c .trays)
+-- refused since the controller has decided, with the output that a frame needs: the state is not of round 195
+abbrev pub quieted : Controller → TrayCall → Bool
+quieted c k = refused 2 k && leb maxFrame (length (k .before)) && ltb (k .state .round) 195
 
--- two entries under the proper number 7: both are the frame that it sent, as the tray keeps the guarantee
-abbrev pub repeated : Controller → TrayCall → Bool
-repeated c k = refused 0 k && keeps c k && eqb (countIf (eqb 7) (senders (entries (k .tray)))) 2
+-- decides in round t, having worked the tray before
+abbrev pub stops : ℕ → Controller → TrayCall → Bool
+stops t c k = refused 0 k && not (eqb (k .answer .state .decision) 2) && eqb (k .answer .state .round) t
 
--- worked after round t, with an entry of an unknown sender
-abbrev pub late : ℕ → Controller → TrayCall → Bool
-late t c k = refused 0 k && ltb t (k .state .round) && mem 11 (senders (entries (k .tray)))
+-- calls of a line with the faulty 3
+module _ (line : List Controller) where
+  -- the tray keeps the guarantee for the round that the controller is in
+  abbrev pub keeps : Controller → TrayCall → Bool
+  keeps c k = deliversTest line (3 ∷ []) (c .number) (k .state .round) (k .tray)
+
+  -- a tray that keeps the guarantee is refused for want of room; another call works it
+  abbrev pub short : Controller → TrayCall → Bool
+  short c k = refused 3 k && keeps c k && somePass (λ (l : TrayCall). refused 0 l && same (l .tray) (k .tray)) (c .trays)
+
+  -- two entries under the proper number 7: both are the frame that it sent, as the tray keeps the guarantee
+  abbrev pub repeated : Controller → TrayCall → Bool
+  repeated c k = refused 0 k && keeps c k && eqb (countIf (eqb 7) (senders (entries (k .tray)))) 2
+
+  -- a tray that keeps the guarantee is worked though none of the other proper ones has an entry in it
+  abbrev pub deserted : Controller → TrayCall → Bool
+  deserted c k =
+      refused 0 k && keeps c k && allPass (λ (d : Controller). not (mem (d .number) (senders (entries (k .tray))))) line
 
 pub record Tested : Type 0 where
   pub one-run : runTest one [] ≡ true
-  pub one-late : callTest one (late 5) ≡ true
-  pub four-run : runTest four (3 ∷ []) ≡ true
-  pub four-junked : callTest four junked ≡ true
-  pub four-short : callTest four short ≡ true
-  pub four-repeated : callTest four repeated ≡ true
-  pub four-late : callTest four (late 14) ≡ true
+  pub one-quieted : callTest one quieted ≡ true
+  pub joining-run : runTest joining (3 ∷ []) ≡ true
+  pub joining-junked : callTest joining junked ≡ true
+  pub joining-short : callTest joining (short joining) ≡ true
+  pub joining-repeated : callTest joining (repeated joining) ≡ true
+  pub divided-run : runTest divided (3 ∷ []) ≡ true
+  pub divided-first : callTest divided (stops 12) ≡ true
+  pub divided-last : callTest divided (stops 15) ≡ true
+  pub divided-deserted : callTest divided (deserted divided) ≡ true
 
 pub tested : Tested
 unfolding roundOf entryCount sender wellFormed part entries
     kindOf chosenBy saidBy bitFits maxCount lengthFits roundFits headFits bodyFits readRefusal content frameBytes
-    third twoThirds soundRules soundBeside sound frameOf receive firstsAfter roster tally mentioned echoed joined candidatesAfter decides kingAfter
-    bitTaken decisionAfter valueTwoThirds proposalThird proposalTwoThirds proposal bitAdopted strongAfter opinion step startRefusal trayRefusal
+    third twoThirds soundRules soundBeside sound frameOf standIn receive firstsAfter roster tally mentioned echoed joined candidatesAfter decides kingAfter
+    bitTaken decisionAfter valueSaid valueTwoThirds proposalThird proposalTwoThirds proposal bitAdopted strongAfter opinion step startRefusal trayRefusal
 tested =
     record {
       one-run = refl;
-      one-late = refl;
-      four-run = refl;
-      four-junked = refl;
-      four-short = refl;
-      four-repeated = refl;
-      four-late = refl;
+      one-quieted = refl;
+      joining-run = refl;
+      joining-junked = refl;
+      joining-short = refl;
+      joining-repeated = refl;
+      divided-run = refl;
+      divided-first = refl;
+      divided-last = refl;
+      divided-deserted = refl;
     }
 
 -- ---- the runs
@@ -140,7 +173,10 @@ abbrev pub alone : Run
 alone = run-tested one [] (tested .one-run)
 
 abbrev pub oneFaulty : Run
-oneFaulty = run-tested four (3 ∷ []) (tested .four-run)
+oneFaulty = run-tested joining (3 ∷ []) (tested .joining-run)
+
+abbrev pub apart : Run
+apart = run-tested divided (3 ∷ []) (tested .divided-run)
 
 -- some proper one of r has a call that passes f
 abbrev pub Has : Run → (Controller → TrayCall → Bool) → Type 0
@@ -152,17 +188,24 @@ has-tested r f h =
     let (k, j, u) = some-pass (f c) (c .trays) t in
     (c, i, k, j, u)
 
-pub alone-late : Has alone (late 5)
-alone-late = has-tested alone (late 5) (tested .one-late)
+pub alone-quieted : Has alone quieted
+alone-quieted = has-tested alone quieted (tested .one-quieted)
 
 pub faulty-junked : Has oneFaulty junked
-faulty-junked = has-tested oneFaulty junked (tested .four-junked)
+faulty-junked = has-tested oneFaulty junked (tested .joining-junked)
 
-pub faulty-short : Has oneFaulty short
-faulty-short = has-tested oneFaulty short (tested .four-short)
+pub faulty-short : Has oneFaulty (short (oneFaulty .correct))
+faulty-short = has-tested oneFaulty (short joining) (tested .joining-short)
 
-pub faulty-repeated : Has oneFaulty repeated
-faulty-repeated = has-tested oneFaulty repeated (tested .four-repeated)
+pub faulty-repeated : Has oneFaulty (repeated (oneFaulty .correct))
+faulty-repeated = has-tested oneFaulty (repeated joining) (tested .joining-repeated)
 
-pub faulty-late : Has oneFaulty (late 14)
-faulty-late = has-tested oneFaulty (late 14) (tested .four-late)
+-- "when proper controllers stop at different rounds"
+pub apart-first : Has apart (stops 12)
+apart-first = has-tested apart (stops 12) (tested .divided-first)
+
+pub apart-last : Has apart (stops 15)
+apart-last = has-tested apart (stops 15) (tested .divided-last)
+
+pub apart-deserted : Has apart (deserted (apart .correct))
+apart-deserted = has-tested apart (deserted divided) (tested .divided-deserted)

@@ -5,7 +5,7 @@
 --     deliversTest l f p t b        the tray b of round t to p keeps the guarantee
 --     runTest l f                   the proper ones l and the faulty ones f make a run
 use Prim.Native.Nat.{ℕ, _+_, _*_, _≤_}
-use mathlib.Core.Bool.{Bool, true, false, not, true≢false, and-eq-true-iff, _&&_, _||_}
+use mathlib.Core.Bool.{Bool, true, false, not, true≢false, and-eq-true-iff, or-true, _&&_, _||_}
 use mathlib.Core.List.{List, [], _∷_, List·Memᴰ·head, List·Memᴰ·tail, List·Memᴰ·cases-cons, List·Memᴰ·not-nil, Memᴰ·cast}
 use mathlib.Core.Logic.{inl, inr, _≢_}
 use mathlib.Core.Path.{_≡_, refl, sym, ap, _∙_, subst}
@@ -14,7 +14,7 @@ use lib.Dec.{eqb, leb, ltb}
 use lib.ListN.{length}
 use Rattle.controller.specs.Bytes.{Entry, wellFormed, roundOf, entries}
 use Rattle.controller.specs.Lists.{In, mem, NoRepeats}
-use Rattle.controller.specs.State.{view, same}
+use Rattle.controller.specs.State.{view, undecided, same}
 use Rattle.controller.specs.Received.{senders}
 use Rattle.controller.specs.Calls.{sentBytes}
 use Rattle.controller.specs.Laws.Lists.{true-or-false, mem-in, mem-out}
@@ -50,6 +50,13 @@ some-pass f (y ∷ l) h = elim (true-or-false (f y)) [
   | inr t ↦ let rest = some-pass f l (rw t at h) in (rest .0, List·Memᴰ·tail (rest .1), rest .2)
 ]
 
+pub pass-some : {A : Type 0} (f : A → Bool) (l : List A) → (x : A) → Member x l → f x ≡ true → somePass f l ≡ true
+pass-some f [] x i t = absurd (List·Memᴰ·not-nil i)
+pass-some f (y ∷ l) x i t = elim (List·Memᴰ·cases-cons i) [
+  | inl e ↦ rw (sym (ap f e) ∙ t)
+  | inr j ↦ rw (pass-some f l x j t) (or-true (f y))
+]
+
 -- the second of two tests, where the first fails
 or-right : (a b : Bool) → (a || b) ≡ true → a ≡ false → b ≡ true
 or-right true b h e = absurd (true≢false e)
@@ -63,8 +70,12 @@ differ-no-repeats (x ∷ l) h =
 
 -- ---- frames
 
+-- the state of round t, with which a frame was sent
+abbrev senderTest : ℕ → State → Bool
+senderTest t s = eqb (s .round) t && undecided (view s)
+
 abbrev frameTest : ℕ → List ℕ → State → Bool
-frameTest t b s = eqb (s .round) t && same b (sentBytes (view s))
+frameTest t b s = senderTest t s && same b (sentBytes (view s))
 
 abbrev sentTest : Controller → ℕ → List ℕ → Bool
 sentTest c t b = somePass (frameTest t b) (states c)
@@ -73,9 +84,19 @@ sent-tested : (c : Controller) (t : ℕ) (b : List ℕ) → sentTest c t b ≡ t
 sent-tested c t b h =
     let found = some-pass (frameTest t b) (states c) h in
     let s = found .0 in
-    let both = and-eq-true-iff (eqb (s .round) t) (same b (sentBytes (view s))) .0 (found .2) in
-    let bytes = same-gives b (sentBytes (view s)) (both .1) in
-    subst (λ u. Sent c u b) (eqb-true (s .round) t (both .0)) (subst (Sent c (s .round)) (sym bytes) (state-sent c s (found .1)))
+    let (sender, frame) = and-eq-true-iff (senderTest t s) (same b (sentBytes (view s))) .0 (found .2) in
+    let (round, active) = and-eq-true-iff (eqb (s .round) t) (undecided (view s)) .0 sender in
+    let bytes = same-gives b (sentBytes (view s)) frame in
+    subst (λ u. Sent c u b) (eqb-true (s .round) t round) (subst (Sent c (s .round)) (sym bytes) (state-sent c s (found .1) active))
+
+-- whether c sent a frame for round t
+abbrev sendsTest : ℕ → Controller → Bool
+sendsTest t c = somePass (senderTest t) (states c)
+
+sends-tested : (c : Controller) (t : ℕ) (b : List ℕ) → Sent c t b → sendsTest t c ≡ true
+sends-tested c t b sent =
+    let f = sent-state c sent in
+    pass-some (senderTest t) (states c) (f .state) (f .listed) (rw (eq-eqb _ _ (f .round)) (f .active))
 
 module _ (correct : List Controller) (faulty : List ℕ) where
   -- ---- the line's guarantee
@@ -83,15 +104,15 @@ module _ (correct : List Controller) (faulty : List ℕ) where
   abbrev otherTest : ℕ → ℕ → Bool
   otherTest receiver x = mem x (everyone correct faulty) && not (eqb x receiver)
 
-  abbrev presentTest : ℕ → List Entry → Controller → Bool
-  presentTest receiver es c = eqb (c .number) receiver || mem (c .number) (senders es)
+  abbrev presentTest : ℕ → ℕ → List Entry → Controller → Bool
+  presentTest receiver t es c = eqb (c .number) receiver || (not (sendsTest t c) || mem (c .number) (senders es))
 
   abbrev entryTest : ℕ → Entry → Controller → Bool
   entryTest t e c = not (eqb (e .sender) (c .number)) || sentTest c t (e .bytes)
 
   abbrev pub deliversTest : ℕ → ℕ → List ℕ → Bool
   deliversTest receiver t b =
-      eqb (roundOf b) t && wellFormed b && allPass (otherTest receiver) (senders (entries b)) && allPass (presentTest receiver (entries b)) correct
+      eqb (roundOf b) t && wellFormed b && allPass (otherTest receiver) (senders (entries b)) && allPass (presentTest receiver t (entries b)) correct
       && allPass (λ (e : Entry). allPass (entryTest t e) correct) (entries b)
 
   other-tested : (receiver x : ℕ) → otherTest receiver x ≡ true → In x (everyone correct faulty) × (x ≢ receiver)
@@ -103,16 +124,17 @@ module _ (correct : List Controller) (faulty : List ℕ) where
   delivers-tested receiver t b h =
       let es = entries b in
       let (h₃, frames) = and-eq-true-iff _ (allPass (λ (e : Entry). allPass (entryTest t e) correct) es) .0 h in
-      let (h₂, present) = and-eq-true-iff _ (allPass (presentTest receiver es) correct) .0 h₃ in
+      let (h₂, present) = and-eq-true-iff _ (allPass (presentTest receiver t es) correct) .0 h₃ in
       let (h₁, others) = and-eq-true-iff _ (allPass (otherTest receiver) (senders es)) .0 h₂ in
       let (round, packed) = and-eq-true-iff (eqb (roundOf b) t) (wellFormed b) .0 h₁ in
       record {
         packed = packed;
         round = eqb-true (roundOf b) t round;
         others = λ x i. other-tested receiver x (all-pass (otherTest receiver) (senders es) others x i);
-        present = λ c i ne.
-            let passed = all-pass (presentTest receiver es) correct present c i in
-            mem-in (senders es) (or-right (eqb (c .number) receiver) _ passed (ne-eqb (c .number) receiver ne));
+        present = λ c i ne f sent.
+            let passed = all-pass (presentTest receiver t es) correct present c i in
+            let other = or-right (eqb (c .number) receiver) _ passed (ne-eqb (c .number) receiver ne) in
+            mem-in (senders es) (or-right (not (sendsTest t c)) _ other (ap not (sends-tested c t f sent)));
         frames = λ e i c j sender.
             let passed = all-pass (entryTest t e) correct (all-pass (λ (e : Entry). allPass (entryTest t e) correct) es frames e i) c j in
             sent-tested c t (e .bytes) (or-right (not (eqb (e .sender) (c .number))) _ passed (ap not (eq-eqb (e .sender) (c .number) sender)));
@@ -126,9 +148,9 @@ module _ (correct : List Controller) (faulty : List ℕ) where
   abbrev workTest : ℕ → ℕ → TrayCall → Bool
   workTest receiver t k = eqb (k .answer .refusal) 0 && deliversTest receiver t (k .tray)
 
-  -- a frame was sent with each state
+  -- a frame was sent with each state that has not decided
   abbrev stateTest : Controller → State → Bool
-  stateTest c s = ltb (2 + 3 * size) (s .round) || somePass (workTest (c .number) (s .round)) (c .trays)
+  stateTest c s = ltb (2 + 3 * size) (s .round) || (not (undecided (view s)) || somePass (workTest (c .number) (s .round)) (c .trays))
 
   abbrev worksTest : Controller → Bool
   worksTest c = allPass (stateTest c) (states c)
@@ -136,8 +158,11 @@ module _ (correct : List Controller) (faulty : List ℕ) where
   pub works-tested : (c : Controller) → worksTest c ≡ true → (t : ℕ) → t ≤ 2 + 3 * size → (b : List ℕ) → Sent c t b
       → (k : TrayCall) × Member k (c .trays) × Accepted k × Delivers correct faulty (c .number) t (k .tray)
   works-tested c h t early b sent =
-      let (s, i, e, f) = sent-state c sent in
-      let passed = or-right (ltb (2 + 3 * size) (s .round)) _ (all-pass (stateTest c) (states c) h s i) (le-ltb (2 + 3 * size) (s .round) (rw e early)) in
+      let f = sent-state c sent in
+      let s = f .state in
+      let e = f .round in
+      let timely = or-right (ltb (2 + 3 * size) (s .round)) _ (all-pass (stateTest c) (states c) h s (f .listed)) (le-ltb (2 + 3 * size) (s .round) (rw e early)) in
+      let passed = or-right (not (undecided (view s))) _ timely (ap not (f .active)) in
       let (k, j, w) = some-pass (workTest (c .number) (s .round)) (c .trays) passed in
       let (accepted, delivers) = and-eq-true-iff (eqb (k .answer .refusal) 0) _ .0 w in
       let kept = delivers-tested (c .number) (s .round) (k .tray) delivers in

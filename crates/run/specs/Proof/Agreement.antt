@@ -11,7 +11,7 @@ use lib.Dec.{leb}
 use lib.ListN.{length, length-append}
 use Rattle.controller.specs.Bytes.{maxFrame, Entry, entries}
 use Rattle.controller.specs.Lists.{In}
-use Rattle.controller.specs.State.{View, view, undecided, sound}
+use Rattle.controller.specs.State.{View, view, undecided}
 use Rattle.controller.specs.Received.{receive}
 use Rattle.controller.specs.Rules.{next}
 use Rattle.controller.specs.Laws.Lists.{true-or-false, list-some}
@@ -21,8 +21,8 @@ use Rattle.run.specs.Run.{Member, TrayCall, Controller, states, Sent, nu
 use Rattle.run.specs.Outcome.{Decides, Outcome}
 use Rattle.run.specs.Proof.Steps.{Steps, AtWork}
 use Rattle.run.specs.Proof.Protocol.{deadline, agree, valid, reception-fits}
-use Rattle.run.specs.Proof.Calls.{accepted-fits, given-listed, state-one, state-round, state-own, sent-state, decides-by}
-use Rattle.run.specs.Proof.RunSteps.{size, at-most, steps, state-held, input-at, state-at, call-made, each-number, delivers-reception, step-rules}
+use Rattle.run.specs.Proof.Calls.{state-round, state-own, state-sound, sent-state, decides-by}
+use Rattle.run.specs.Proof.RunSteps.{size, at-most, steps, state-held, input-at, state-at, each-number, delivers-reception, step-rules}
 
 module _ (r : Run) where
   open Run r using (correct, faulty)
@@ -82,13 +82,6 @@ module _ (r : Run) where
         active = ap (λ v. undecided v) (state-at r i (f .state) (f .listed) (inl (f .round))) ∙ f .active;
       }
 
-  -- so it is sound
-  state-sound : {c : Controller} → Member c correct → (s : State) → Member s (states c) → AtWork (steps r) (c .number) (s .round) → sound s ≡ true
-  state-sound {c} i s j w =
-      let u = call-made r i (s .round) w in
-      subst (λ (x : State). sound x ≡ true) (state-one c (u .call .state) s (given-listed c (u .listed)) j (u .round))
-      (accepted-fits (u .call) (u .accepted) .state)
-
   delivers-fits : {c : Controller} → Member c correct → (s : State) → Member s (states c) → AtWork (steps r) (c .number) (s .round)
       → (b : List ℕ) → Delivers correct faulty (c .number) (s .round) b → Fits s b
   delivers-fits {c} i s j w b d =
@@ -98,7 +91,7 @@ module _ (r : Run) where
       let lists : ListsFit (view s) (entries b) =
       subst (λ v. ListsFit v (entries b)) at (reception-fits (steps r) (step-rules r) p (s .round) w _ got) in
       record {
-        state = state-sound i s j w;
+        state = state-sound c s j;
         early = omega (arith, r .size .1, w .timely .last);
         active = subst (λ v. undecided v ≡ true) at (w .active);
         packed = d .packed;

@@ -16,20 +16,21 @@ use borrow.Author.Tests.{eqb-true, eqb-false, eq-eqb, ne-eqb}
 use lib.Dec.{eqb}
 use lib.ListN.{length, take}
 use lib.Seq.{take-append-seam}
-use Rattle.controller.specs.Bytes.{entries}
-use Rattle.controller.specs.State.{View, view, undecided, storedState, startView, startRounds}
+use Rattle.controller.specs.Bytes.{maxFrame, entries}
+use Rattle.controller.specs.State.{View, view, undecided, sound, storedState, startView, startRounds}
 use Rattle.controller.specs.First.{roundsAfter}
 use Rattle.controller.specs.Received.{Received, receive}
 use Rattle.controller.specs.Rules.{next}
 use Rattle.controller.specs.Calls.{Promise, sentBytes}
 use Rattle.controller.specs.Laws.Calls.{sent-something, sender-undecided}
+use Rattle.controller.specs.Laws.First.{start-stays-sound, next-stays-sound}
 use Rattle.controller.specs.Laws.Lists.{true-or-false}
 use Rattle.controller.specs.Laws.Refusals.{Fits, start-accepted, tray-accepted}
 use Rattle.controller.specs.Laws.Rules.{step-own, step-round}
 use Rattle.controller.specs.Laws.State.{view-stored}
 use Rattle.controller.specs.declared.state.State.{State}
 use Rattle.controller.specs.declared.state.Answer.{Answer}
-use Rattle.run.specs.Run.{Member, TrayCall, Accepted, HandedOn, Controller, states, Sent}
+use Rattle.run.specs.Run.{Member, TrayCall, Accepted, HandedOn, Controller, stateAfter, states, Sent}
 use Rattle.run.specs.Outcome.{Decides}
 
 -- ---- one call
@@ -57,7 +58,7 @@ makes-sent : {v : View} {p : List ℕ} {a : Answer} {after : List ℕ} → Retur
 makes-sent m = m .frame ∙ ap sentBytes (sym (makes-view m))
 
 -- and of as many bytes
-makes-size : {v : View} {p : List ℕ} {a : Answer} {after : List ℕ} → Returns v p a after → a .length ≡ length (sentBytes (view (a .state)))
+pub makes-size : {v : View} {p : List ℕ} {a : Answer} {after : List ℕ} → Returns v p a after → a .length ≡ length (sentBytes (view (a .state)))
 makes-size m = m .size ∙ ap (λ (w : View). length (sentBytes w)) (sym (makes-view m))
 
 -- what it received
@@ -86,7 +87,7 @@ accepted-or-kept k = elim (true-or-false (eqb (k .answer .refusal) 0)) [
 
 -- ---- a list of calls
 
-abbrev returned : List TrayCall → List State
+abbrev pub returned : List TrayCall → List State
 returned ks = map (λ (k : TrayCall). k .answer .state) ks
 
 -- what holds at first and is kept by each call that works holds all along: refused calls drop out
@@ -105,12 +106,26 @@ holds-along P s (k ∷ ks) h p step u i =
     ]
 
 -- the state that a call is handed over with is one of the list
-call-given : (s : State) (ks : List TrayCall) → HandedOn s ks → {k : TrayCall} → Member k ks → Member (k .state) (s ∷ returned ks)
+pub call-given : (s : State) (ks : List TrayCall) → HandedOn s ks → {k : TrayCall} → Member k ks → Member (k .state) (s ∷ returned ks)
 call-given s [] h i = absurd (List·Memᴰ·not-nil i)
 call-given s (l ∷ ks) h i = elim (List·Memᴰ·cases-cons i) [
   | inl e ↦ List·Memᴰ·head (ap (λ (k : TrayCall). k .state) e ∙ h .0)
   | inr j ↦ List·Memᴰ·tail (call-given (l .answer .state) ks (h .1) j)
 ]
+
+-- ---- a front part of a list
+
+pub handed-front : (s : State) (ks ls : List TrayCall) → HandedOn s (ks ++ ls) → HandedOn s ks
+handed-front s [] ls h = tt
+handed-front s (k ∷ ks) ls h = (h .0, handed-front (k .answer .state) ks ls (h .1))
+
+pub handed-rest : (s : State) (ks ls : List TrayCall) → HandedOn s (ks ++ ls) → HandedOn (stateAfter s ks) ls
+handed-rest s [] ls h = h
+handed-rest s (k ∷ ks) ls h = handed-rest (k .answer .state) ks ls (h .1)
+
+pub state-append : (s : State) (ks ls : List TrayCall) → stateAfter s (ks ++ ls) ≡ stateAfter (stateAfter s ks) ls
+state-append s [] ls = refl
+state-append s (k ∷ ks) ls = state-append (k .answer .state) ks ls
 
 -- ---- rounds along the list
 
@@ -236,8 +251,11 @@ module _ (c : Controller) where
   pub start-round : start .answer .state .round ≡ 1
   start-round = ap (λ (s : State). s .round) (start-returns .state)
 
+  start-passed : (number ≢ 0) × (start .bit ≤ 1) × (maxFrame ≤ length (start .before))
+  start-passed = start-accepted number (start .bit) (length (start .before)) (sym (start .promise .number) ∙ c .started)
+
   pub start-bit : start .bit ≤ 1
-  start-bit = start-accepted number (start .bit) (length (start .before)) (sym (start .promise .number) ∙ c .started) .1
+  start-bit = start-passed .1
 
   pub start-listed : Member (start .answer .state) (states c)
   start-listed = List·Memᴰ·head refl
@@ -265,6 +283,12 @@ module _ (c : Controller) where
 
   pub start-undecided : undecided (view (start .answer .state)) ≡ true
   start-undecided = ap (λ (v : View). undecided v) (makes-view start-returns)
+
+  -- each state of the list is sound
+  pub state-sound : (s : State) → Member s (states c) → sound s ≡ true
+  state-sound = holds-along (λ s. sound s ≡ true) (start .answer .state) trays handed
+      (rw (start-returns .state) (start-stays-sound number (start .bit) (start-passed .0) start-bit))
+      (λ k i w h. rw (accepted-makes k w .state) (next-stays-sound (k .state) (k .tray) (accepted-fits k w)))
 
   -- a decided state is the last
   pub state-last : (u v : State) → Member u (states c) → Member v (states c) → undecided (view u) ≡ false → u .round ≤ v .round → v ≡ u

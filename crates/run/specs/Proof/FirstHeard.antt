@@ -20,7 +20,7 @@ use Rattle.controller.specs.Received.{senders}
 use Rattle.controller.specs.State.{View, view, firstRounds}
 use Rattle.controller.specs.declared.state.State.{State}
 use Rattle.run.specs.FirstHeard.{heard, Brought, firstBrought, FirstHeard}
-use Rattle.run.specs.Proof.Calls.{makes-view, receivedWith, madeBy, accepted-fits, accepted-makes, accepted-or-kept, promise-keeps, start-returns, given-listed, state-own}
+use Rattle.run.specs.Proof.Calls.{makes-view, receivedWith, madeBy, accepted-fits, accepted-makes, accepted-or-kept, promise-keeps, handed-front, handed-rest, state-append, start-returns, given-listed, state-own}
 use Rattle.run.specs.Run.{Member, TrayCall, Accepted, HandedOn, Controller, stateAfter}
 
 -- ---- one call that works
@@ -145,20 +145,6 @@ heard-after s (k ∷ ks) h x =
             ]),
           )
     ]
-
--- ---- a front part of a list
-
-handed-front : (s : State) (ks ls : List TrayCall) → HandedOn s (ks ++ ls) → HandedOn s ks
-handed-front s [] ls h = tt
-handed-front s (k ∷ ks) ls h = (h .0, handed-front (k .answer .state) ks ls (h .1))
-
-handed-rest : (s : State) (ks ls : List TrayCall) → HandedOn s (ks ++ ls) → HandedOn (stateAfter s ks) ls
-handed-rest s [] ls h = h
-handed-rest s (k ∷ ks) ls h = handed-rest (k .answer .state) ks ls (h .1)
-
-state-append : (s : State) (ks ls : List TrayCall) → stateAfter s (ks ++ ls) ≡ stateAfter (stateAfter s ks) ls
-state-append s [] ls = refl
-state-append s (k ∷ ks) ls = state-append (k .answer .state) ks ls
 
 -- ---- from a start
 
