@@ -42,6 +42,12 @@ fn word(first: u8, second: u8, third: u8, fourth: u8) -> u64
     half(first, second) * 65536 + half(third, fourth)
 }
 
+// Kind 0 and bit 2, for a call that sends nothing.
+fn print_nothing(round: u32) {
+    io::print_decimal(STDOUT_FILENO, round as u64);
+    print(b" 0 2 0");
+}
+
 // What was sent is read from the bytes that the call wrote. By the calls' contracts they are never void.
 fn print_frame(bytes: &[u8], round: u32) {
     let read = read_frame(bytes, round);
@@ -70,7 +76,11 @@ fn print_call(answer: Answer, frame: &[u8; 264]) {
     let refusal = answer.refusal;
     if refusal == 0 {
         let state = answer.state;
-        print_frame(part_of(frame, 0, answer.length), state.round);
+        if answer.length == 0 {
+            print_nothing(state.round);
+        } else {
+            print_frame(part_of(frame, 0, answer.length), state.round);
+        }
         print_state(state);
     } else {
         print(b"refused");

@@ -1,6 +1,7 @@
 // What the faulty controller 3 sends, to each receiver and in each round, under each fault.
 ghost use Prim.Native.Nat.{_≤_, _<_};
 use crate::packing::Packet;
+use crate::packing::nothing;
 use wire::frame::Frame;
 use wire::frame::kind_of;
 use wire::frame::said_by;
@@ -10,7 +11,7 @@ use wire::limits::TURN;
 use wire::write::write_frame;
 
 pub(crate) enum Fault {
-    // Init to 5 and 7, a roster of 3 alone to 9, then nothing: document 01's last trial.
+    // Init to 5 and 7, then void frames to these and a roster of 3 alone to 9, then nothing: the last trial of document 01, as document 02, A7, has it.
     Trial,
     // Nothing.
     Silence,
@@ -20,14 +21,8 @@ pub(crate) enum Fault {
     King,
     // Bytes that are no frame.
     Void,
-}
-
-fn nothing() -> Packet {
-    Packet {
-        sender: 0,
-        len: 0,
-        bytes: [0; MAX_FRAME],
-    }
+    // Its own number, listed to just so many that 5 alone has it as a candidate in the end.
+    Division,
 }
 
 // A frame that lists the first `count` numbers of the network; nothing where the writer refuses it.
@@ -53,7 +48,7 @@ fn by_trial(round: u32, to: u32) -> Packet {
     if round == 1 {
         if to == 9 { nothing() } else { frame(1, 2, 0) }
     } else if round == 2 {
-        if to == 9 { frame(2, 2, 1) } else { nothing() }
+        if to == 9 { frame(2, 2, 1) } else { void() }
     } else {
         nothing()
     }
@@ -117,6 +112,28 @@ fn void() -> Packet {
     }
 }
 
+// Whether 3 lists itself to this one: to one of them in rounds 2 and 5, who then echoes it, to two in round 8, and to 5 in round 11.
+fn listed_to(round: u32, to: u32) -> bool {
+    match round {
+        2 => to == 7,
+        5 => to == 9,
+        8 => to != 9,
+        11 => to == 5,
+        _ => false,
+    }
+}
+
+// A void frame where it does not list itself, since silence counts as the receiver's own list.
+fn dividing(round: u32, to: u32) -> Packet {
+    if round == 1 {
+        if to == 5 { frame(1, 2, 0) } else { nothing() }
+    } else if listed_to(round, to) {
+        frame(round, 2, 1)
+    } else {
+        void()
+    }
+}
+
 pub(crate) fn sent_to(fault: Fault, round: u32, to: u32) -> Packet {
     match fault {
         Fault::Trial => by_trial(round, to),
@@ -124,5 +141,6 @@ pub(crate) fn sent_to(fault: Fault, round: u32, to: u32) -> Packet {
         Fault::Equivocation => equivocating(round, to),
         Fault::King => by_king(round, to),
         Fault::Void => void(),
+        Fault::Division => dividing(round, to),
     }
 }

@@ -14,6 +14,7 @@ use faulty::Fault;
 use faulty::sent_to;
 use packing::Packet;
 use packing::TRAY_ROOM;
+use packing::nothing;
 use packing::pack;
 use report::print;
 use report::print_change;
@@ -21,8 +22,9 @@ use report::print_input;
 use report::print_outcome;
 use report::print_refusal;
 use wire::limits::MAX_FRAME;
+use wire::limits::NO_BIT;
 
-// A correct controller between two rounds: the state that its last call returned, and the frame that this call wrote.
+// A correct controller between two rounds: the state that its last call returned, and the frame that this call wrote, if any.
 struct Node {
     state: State,
     sent: Packet,
@@ -45,11 +47,16 @@ fn start_one(number: u32, bit: u8) -> Node {
     print_input(state);
     Node {
         state,
-        sent: Packet {
-            sender: number,
-            len,
-            bytes,
-        },
+        sent: packet_of(number, len, bytes),
+    }
+}
+
+// What a call gave to send: nothing where the length is 0.
+fn packet_of(sender: u32, len: usize, bytes: [u8; MAX_FRAME]) -> Packet {
+    if len == 0 {
+        nothing()
+    } else {
+        Packet { sender, len, bytes }
     }
 }
 
@@ -69,9 +76,12 @@ fn hand_over(was: State, bytes: [u8; TRAY_ROOM], len: usize, out: &mut [u8]) -> 
     tray(was, &bytes[0..len], out)
 }
 
-// One controller's call: its tray of a round holds what the two others sent, and what 3 sends to it.
+// One controller's call: its tray of a round holds what the two others sent, and what 3 sends to it. One that has decided gets no more trays.
 fn step_one(node: Node, other: Packet, another: Packet, round: u32, fault: Fault) -> Node {
     let was = node.state;
+    if was.decision != NO_BIT {
+        return node;
+    }
     let number = was.own;
     let given = pack(round, other, another, sent_to(fault, round, number));
     let given_bytes = given.bytes;
@@ -84,11 +94,7 @@ fn step_one(node: Node, other: Packet, another: Packet, round: u32, fault: Fault
     print_change(was, state);
     Node {
         state,
-        sent: Packet {
-            sender: number,
-            len,
-            bytes,
-        },
+        sent: packet_of(number, len, bytes),
     }
 }
 
@@ -107,7 +113,7 @@ fn step_all(was: Network, round: u32, fault: Fault) -> Network {
     }
 }
 
-// A network of four has decided by round 15, document 01's 3 + 3n. A decision that changed before then would be printed again.
+// A network of four has decided by round 15, document 01's 3 + 3n.
 fn play(fault: Fault) {
     let mut now = start_all();
     let mut round = 1;
@@ -123,7 +129,7 @@ fn play(fault: Fault) {
 
 fn main() {
     print(
-        b"last trial of document 01: 3 sends init to 5 and 7, then to 9 a roster that lists just 3, then nothing\n",
+        b"last trial of document 01: 3 sends init to 5 and 7, then these a void frame and 9 a roster that lists just 3, then nothing\n",
     );
     play(Fault::Trial);
     print(b"\nsilence: 3 sends nothing\n");
@@ -134,4 +140,8 @@ fn main() {
     play(Fault::King);
     print(b"\nvoid frames: 3 sends bytes that are no frame, in every round\n");
     play(Fault::Void);
+    print(
+        b"\ndivision: 3 lists itself to just so many that 5 alone has it as a candidate, and stops last\n",
+    );
+    play(Fault::Division);
 }

@@ -13,9 +13,19 @@ pub(crate) struct Packet {
     pub bytes: [u8; MAX_FRAME],
 }
 
-// A tray under way: the directory has its place, and the frames put so far end at `len`.
+// No frame.
+pub(crate) fn nothing() -> Packet {
+    Packet {
+        sender: 0,
+        len: 0,
+        bytes: [0; MAX_FRAME],
+    }
+}
+
+// A tray under way: the directory has its place and `placed` of its entries, and the frames put so far end at `len`.
 pub(crate) struct Tray {
     pub len: usize,
+    pub placed: usize,
     pub bytes: [u8; TRAY_ROOM],
 }
 
@@ -54,50 +64,58 @@ fn put_bytes(bytes: &mut [u8; TRAY_ROOM], at: usize, frame: &[u8; MAX_FRAME], le
     }
 }
 
+// How many entries a packet takes.
+fn entries_of(packet: Packet) -> u32
+    ensures { λ r. ⌜ r ≤ 1 ⌝ }
+{
+    if packet.sender == 0 { 0 } else { 1 }
+}
+
 // A tray of a round with room for a directory of `entries`.
 fn empty_tray(round: u32, entries: u32) -> Tray
     requires { ⌜ entries ≤ 3 ⌝ }
-    ensures { λ r. ⌜ r .len ≤ 32 ⌝ }
+    ensures { λ r. ⌜ (r .len ≤ 32) × (r .placed ≡ 0) ⌝ }
 {
     let mut bytes = [0; TRAY_ROOM];
     put_word(&mut bytes, 0, round);
     put_half(&mut bytes, 4, entries);
     Tray {
         len: 8 + 8 * entries as usize,
+        placed: 0,
         bytes,
     }
 }
 
-// The tray with one frame more, as the entry at `place`. No frame is longer than what the cut leaves.
-fn with_packet(tray: Tray, place: usize, packet: Packet) -> Tray
-    requires { ⌜ (place < 3) × (tray .len + maxFrame ≤ 824) ⌝ }
-    ensures { λ r. ⌜ r .len ≤ tray .len + maxFrame ⌝ }
+// The tray with one frame more, where there is one. No frame is longer than what the cut leaves.
+fn with_packet(tray: Tray, packet: Packet) -> Tray
+    requires { ⌜ (tray .placed < 3) × (tray .len + maxFrame ≤ 824) ⌝ }
+    ensures { λ r. ⌜ (r .len ≤ tray .len + maxFrame) × (r .placed ≤ tray .placed + 1) ⌝ }
 {
+    if packet.sender == 0 {
+        return tray;
+    }
     let offset = tray.len;
     let len = least(packet.len, MAX_FRAME);
     let frame = packet.bytes;
     let mut bytes = tray.bytes;
-    let entry = 8 + 8 * place;
+    let entry = 8 + 8 * tray.placed;
     put_word(&mut bytes, entry, packet.sender);
     put_half(&mut bytes, entry + 4, offset as u32);
     put_half(&mut bytes, entry + 6, len as u32);
     put_bytes(&mut bytes, offset, &frame, len);
     Tray {
         len: offset + len,
+        placed: tray.placed + 1,
         bytes,
     }
 }
 
-// The tray of a round: two frames, and a third where there is one.
+// The tray of a round, with those of three frames that there are.
 pub(crate) fn pack(round: u32, first: Packet, second: Packet, third: Packet) -> Tray
     ensures { λ r. ⌜ r .len ≤ 824 ⌝ }
 {
-    if third.sender == 0 {
-        let one = with_packet(empty_tray(round, 2), 0, first);
-        with_packet(one, 1, second)
-    } else {
-        let one = with_packet(empty_tray(round, 3), 0, first);
-        let two = with_packet(one, 1, second);
-        with_packet(two, 2, third)
-    }
+    let entries = entries_of(first) + entries_of(second) + entries_of(third);
+    let one = with_packet(empty_tray(round, entries), first);
+    let two = with_packet(one, second);
+    with_packet(two, third)
 }
