@@ -60,10 +60,7 @@ fits-places k m n l all e = rw e (pick (ltb 0 (maxCount k)))
     pick true = all
     pick false = omega arith
 
--- what was lent to one that has not decided; what is asked of `write_frame`, and what it has written
-abbrev lent : tie.Else1 → tie.Start
-lent c = c .before .before .before .before
-
+-- what is asked of `write_frame`, and what it has written
 abbrev asked : tie.After-write-frame → tie.After-sent-count
 asked c = c .before .before .before
 
@@ -75,7 +72,7 @@ abbrev active : tie.After-sent-count → tie.Else1
 active c = c .before .before .before
 
 abbrev given : tie.After-sent-count → tie.Start
-given c = lent (active c)
+given c = active c .before .before .before .before
 
 returns : tie.Need-returns
 returns c h d sound =
@@ -112,7 +109,8 @@ returns-2 c h d sound =
     let start = given counted in
     let s = stateOf (start .args .fields) h d (now (start .args .echoes)) in
     let content = content-is s _ _ _ (counted .before .before .kind-of .ensures) (counted .sent-count .ensures) (counted .before .said-by .ensures) in
-    writes s sound (eq-eqb _ _ (active counted .if1 .left)) (now (start .args .out)) (start .pre .0) (written c .write-frame .result) _ (rw content at (written c .write-frame .ensures))
+    writes s sound (eq-eqb _ _ (active counted .if1 .left)) (now (start .args .out)) (start .pre .0) (written c .write-frame .result) _
+    (rw content at (written c .write-frame .ensures))
 
 pub send-spec : {M : Type 1} → statement M
 send-spec =

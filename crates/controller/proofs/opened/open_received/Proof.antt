@@ -21,15 +21,15 @@ use Rattle.controller.proofs.opened.open_received.Statement.{statement}
 use Rattle.controller.proofs.opened.open_received.Tie as tie
 
 module _ (f : Fields) (e b : List ℕ) (x i : ℕ) where
-  oneself : (eqb x (f .own) || eqb i noFrame) ≡ true → listUnder f e b x i ≡ take (sentCount f) e
-  oneself t = rw t (pick (ltb 0 (maxCount (kindOf (f .round)))))
+  own-list : (eqb x (f .own) || eqb i noFrame) ≡ true → listUnder f e b x i ≡ take (sentCount f) e
+  own-list t = rw t (pick (ltb 0 (maxCount (kindOf (f .round)))))
     where
       pick : (t : Bool) → cond t (take (f .echoes) e) [] ≡ take (cond t (f .echoes) 0) e
       pick true = refl
       pick false = refl
 
-  another : (eqb x (f .own) || eqb i noFrame) ≡ false → listIn (readIn (f .round) (noted b i)) ≡ listUnder f e b x i
-  another t = rw t
+  sent-list : (eqb x (f .own) || eqb i noFrame) ≡ false → listIn (readIn (f .round) (noted b i)) ≡ listUnder f e b x i
+  sent-list t = rw t
 
 -- what lies at a place has the numbers that are read there
 span-words : {b l : List ℕ} {start count : ℕ} → SpanOf b l start count → SpanOf b (wordsAt b start count) start count
@@ -63,7 +63,7 @@ returns c =
     let a = start .args in
     inl (record {
       same =
-          oneself (a .fields) (now (a .own)) (now (a .tray)) (a .x) (a .note) (c .before .if1 .taken)
+          own-list (a .fields) (now (a .own)) (now (a .tray)) (a .x) (a .note) (c .before .if1 .taken)
           ∙ ap (λ (n : ℕ). take n (now (a .own))) (sym (start .pre .1 .0));
       starts = refl;
       counts = refl;
@@ -94,7 +94,7 @@ returns-2 c =
     let opened = added c in
     let found = asked (opened .before) in
     let a = given (found .before .before) .args in
-    let list = found .list-of .ensures .is ∙ another (a .fields) (now (a .own)) (now (a .tray)) (a .x) (a .note) (found .before .if1 .left) in
+    let list = found .list-of .ensures .is ∙ sent-list (a .fields) (now (a .own)) (now (a .tray)) (a .x) (a .note) (found .before .if1 .left) in
     rw list at (opened .open-list .ensures)
 
 pub open-received-spec : {M : Type 1} → statement M

@@ -13,6 +13,7 @@ returns c = rw (eq-eqb _ _ (c .if1 .taken))
 returns-2 : tie.Need-returns-2
 returns-2 c = rw (ne-eqb _ _ (c .before .if1 .left), eq-eqb _ _ (c .if2 .taken))
 
+-- what the note says looks at the same test
 returns-3 : tie.Need-returns-3
 returns-3 c =
     let some = ne-eqb _ _ (c .before .if2 .left) in
