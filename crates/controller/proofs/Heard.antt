@@ -64,6 +64,7 @@ module _ (s : State) (es : List Entry) (n : Numbers) (h : soundRules s ≡ true)
         echoes = v .echoes;
         said = v .said;
         said-value = v .said-value;
+        quiet = v .quiet;
         no-candidates = v .no-candidates;
         no-echoes = v .no-echoes;
         bit = v .bit;
@@ -103,7 +104,7 @@ module _ {s : State} {b : List ℕ} {n : ℕ} (k : Checked s b n) {r : ℕ} {at 
     pub hearing-ready : Ready (heardState s all) b f
     unfolding receive
     hearing-ready =
-        ready-found (heardState s all) b f hearing-sound (k .packed)
+        ready-found (heardState s all) b f hearing-sound (k .active) (k .packed)
         (λ x i. subst (In x) same (heard-in (view s) (entries b) .1 (inl i)))
         (subst (λ (l : List ℕ). (j : ℕ) → j < length l → foundBy (getD f j 0) ≡ found b (getD l j 0)) same (heard .notes few))
 

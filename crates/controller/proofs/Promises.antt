@@ -60,4 +60,4 @@ pub tests-left : {s : State} {b : List ℕ} {n : ℕ} → Checked s b n
     → trayRefusal s b n ≡ cond (sendersFit (view s) (entries b)) (cond (heardFit (view s) (entries b)) (cond (listsFit (view s) (entries b)) 0 8) 7) 6
 unfolding trayRefusal
 tests-left {s} {b} {n} k =
-    rw (k .sound, lt-ltb (s .round) lastRound (k .early), le-leb maxFrame n (k .room), k .packed, eq-eqb (roundOf b) (s .round) (k .round))
+    rw (k .sound, lt-ltb (s .round) lastRound (k .early), k .active, le-leb maxFrame n (k .room), k .packed, eq-eqb (roundOf b) (s .round) (k .round))

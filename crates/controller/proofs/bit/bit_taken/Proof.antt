@@ -14,12 +14,9 @@ use Rattle.controller.proofs.bit.bit_taken.Tie as tie
 turn-before : (t : ℕ) → 3 ≤ t → kindOf (t + 1) ≡ 3 → kindOf t ≡ 5
 turn-before t l k = kind-later t 2 l (omega (arith, k, kind-later (t + 1) ((t + 1) % 3) (omega arith) refl))
 
--- the tests before: whether there is a phase, and whether it is undecided
-abbrev phased : tie.Else2 → tie.Else1
-phased c = c .before .before
-
-abbrev asked : tie.After-king-opinion → tie.Else2
-asked c = c .before .before .before
+-- the test before: whether there is a phase
+abbrev phased : tie.After-king-opinion → tie.Else1
+phased c = c .before .before .before
 
 early : (c : tie.Then1) → c .before .before .before .args .fields .round / 3 ≤ 0
 early c = let l = c .if1 .taken in omega arith
@@ -33,30 +30,25 @@ returns c x e ready k = rw (le-ltb 0 _ (early c))
 
 returns-2 : tie.Need-returns-2
 unfolding bitTaken
-returns-2 c x e ready k = rw (lt-ltb 0 _ (late (c .before .before)), ne-eqb _ _ (c .if2 .taken))
-
-returns-3 : tie.Need-returns-3
-unfolding bitTaken
-returns-3 c x e ready k =
-    rw (lt-ltb 0 _ (late (phased (c .before .before))), eq-eqb _ _ (c .before .before .if2 .left), ne-eqb _ _ (c .if3 .taken))
+returns-2 c x e ready k = rw (lt-ltb 0 _ (late (c .before .before)), ready .active, ne-eqb _ _ (c .if2 .taken))
 
 king-opinion-requires : tie.Need-king-opinion-requires
 king-opinion-requires c κs = search needs
 
+returns-3 : tie.Need-returns-3
+unfolding bitTaken
+returns-3 c x e ready k =
+    let first = phased (c .before) in
+    let said = c .before .king-opinion .ensures x e ready (turn-before (first .before .before .before .args .fields .round) (first .if1 .left) k) in
+    rw (lt-ltb 0 _ (late first), ready .active, eq-eqb _ _ (c .before .before .if2 .left), ← said, le-leb _ _ (c .if3 .taken))
+
 returns-4 : tie.Need-returns-4
 unfolding bitTaken
 returns-4 c x e ready k =
-    let first = phased (asked (c .before)) in
+    let first = phased (c .before) in
     let said = c .before .king-opinion .ensures x e ready (turn-before (first .before .before .before .args .fields .round) (first .if1 .left) k) in
-    rw (lt-ltb 0 _ (late first), eq-eqb _ _ (asked (c .before) .if2 .left), eq-eqb _ _ (c .before .before .if3 .left), ← said, le-leb _ _ (c .if4 .taken))
-
-returns-5 : tie.Need-returns-5
-unfolding bitTaken
-returns-5 c x e ready k =
-    let first = phased (asked (c .before)) in
-    let said = c .before .king-opinion .ensures x e ready (turn-before (first .before .before .before .args .fields .round) (first .if1 .left) k) in
-    rw (lt-ltb 0 _ (late first), eq-eqb _ _ (asked (c .before) .if2 .left), eq-eqb _ _ (c .before .before .if3 .left), ← said, lt-leb _ _ (c .if4 .left))
+    rw (lt-ltb 0 _ (late first), ready .active, eq-eqb _ _ (c .before .before .if2 .left), ← said, lt-leb _ _ (c .if3 .left))
 
 pub bit-taken-spec : {M : Type 1} → statement M
 bit-taken-spec =
-    tie.close (tie.spec returns returns-2 returns-3 king-opinion-requires returns-4 returns-5)
+    tie.close (tie.spec returns returns-2 king-opinion-requires returns-3 returns-4)

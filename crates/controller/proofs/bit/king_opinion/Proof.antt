@@ -12,11 +12,11 @@ use lib.Dec.{leb}
 use lib.ListN.{getD}
 use Rattle.controller.specs.Bit.{kingOpinion}
 use Rattle.controller.specs.Fields.{stateOf}
-use Rattle.controller.specs.Laws.Work.Ready.{list-place, ready-opinion, ready-silent}
+use Rattle.controller.specs.Laws.Work.Ready.{list-place, bitHad, ready-opinion, ready-unheard}
 use Rattle.controller.specs.Laws.State.{sound-list-gives}
 use Rattle.controller.specs.Received.{opinionIn}
 use Rattle.controller.specs.State.{view}
-use Rattle.controller.specs.Work.Received.{receivedBy, Ready, bitUnder}
+use Rattle.controller.specs.Work.Received.{receivedBy, Ready}
 use Rattle.controller.specs.declared.state.State.{State}
 use Rattle.wire.specs.Frame.{kindOf}
 use Rattle.wire.specs.Limits.{maxNumbers}
@@ -27,7 +27,7 @@ use Rattle.controller.proofs.bit.king_opinion.Tie as tie
 -- the king stands at place j of those heard, and d is the bit that is read there
 module _ {s : State} {b f : List ℕ} (ready : Ready s b f) (turn : kindOf (s .round) ≡ 5) (j d : ℕ)
     (inside : j < s .heard .len) (there : getD (s .heard .at) j 0 ≡ s .king)
-    (read : d ≡ bitUnder (s .own) (s .round) (s .said) b (s .king) (getD f j 0)) where
+    (read : d ≡ bitHad ready (s .king) (getD f j 0)) where
   opinion-is : kingOpinion (view s) (receivedBy s b) ≡ cond (leb d 1) d 2
   opinion-is = ready-opinion ready turn j (s .king) inside there ∙ rw (← read)
 
@@ -36,7 +36,7 @@ abbrev given : tie.After-has-at → tie.Start
 given c = c .before .before .before
 
 abbrev heard : tie.After-received-bit → tie.Then1
-heard c = c .before .before
+heard c = c .before .before .before
 
 -- those heard
 abbrev list : tie.Start → Numbers
@@ -65,11 +65,14 @@ place-in-requires c κs = c .before .pre
 has-at-requires : tie.Need-has-at-requires
 has-at-requires c κs = (c .before .before .pre, c .place-in .ensures)
 
+silent-bit-requires : tie.Need-silent-bit-requires
+silent-bit-requires c κs = search needs
+
 mul-received-bit : tie.Need-mul-received-bit
-mul-received-bit c = omega (arith, bounded c)
+mul-received-bit c = omega (arith, bounded (c .before))
 
 element-copy-out-received-bit : tie.Need-element-copy-out-received-bit
-element-copy-out-received-bit c = omega (arith, bounded c)
+element-copy-out-received-bit c = omega (arith, bounded (c .before))
 
 received-bit-requires : tie.Need-received-bit-requires
 received-bit-requires c κs = search needs
@@ -83,7 +86,8 @@ told : (c : tie.After-received-bit) (x e : List ℕ)
 told c x e ready turn =
     let at = heard c in
     let place = found at in
-    opinion-is ready turn (at .before .before .place-in .result) _ (place .0) (place .1) (c .received-bit .ensures)
+    let read = rw (c .before .before .silent-bit .ensures) at (c .received-bit .ensures) in
+    opinion-is ready turn (at .before .before .place-in .result) _ (place .0) (place .1) read
 
 returns : tie.Need-returns
 returns c x e ready turn = sym (told (c .before) x e ready turn ∙ rw (le-leb _ 1 (c .if2 .taken)))
@@ -93,7 +97,7 @@ returns-2 c x e ready turn = sym (told (c .before) x e ready turn ∙ rw (lt-leb
 
 returns-3 : tie.Need-returns-3
 returns-3 c x e ready turn =
-    sym (ap opinionIn (ready-silent ready (given (c .before) .args .fields .king) (sym (c .before .has-at .ensures) ∙ c .if1 .left)))
+    sym (ap opinionIn (ready-unheard ready (given (c .before) .args .fields .king) (sym (c .before .has-at .ensures) ∙ c .if1 .left)))
 
 pub king-opinion-spec : {M : Type 1} → statement M
 king-opinion-spec =
@@ -101,6 +105,7 @@ king-opinion-spec =
     (tie.spec
     place-in-requires
     has-at-requires
+    silent-bit-requires
     mul-received-bit
     element-copy-out-received-bit
     received-bit-requires

@@ -1,6 +1,6 @@
 -- `controller::bit::spoken` meets its contract: the bit, strong and said are those of the rules, since the two counts are; an own bit that is not 0 is 1.
 use Prim.Native.Nat.{ℕ, _≤_}
-use mathlib.Core.Bool.{cond, _&&_}
+use mathlib.Core.Bool.{true, cond}
 use mathlib.Core.Logic.{_≢_}
 use mathlib.Core.Path.{_≡_, _∙_}
 use native.Mathlib.Omega.{arith}
@@ -19,17 +19,17 @@ use Rattle.controller.specs.declared.received.Counts.{Counts}
 use Rattle.controller.proofs.bit.spoken.Statement.{statement}
 use Rattle.controller.proofs.bit.spoken.Tie as tie
 
-module _ (v : View) {m : Received} {n : Counts} {h b d : ℕ} (counts : CountsBits 4 m n) (heard : h ≡ length (m .heard))
-    (bit : b ≡ adoptedFrom v (n .zeros) (n .ones) h) (said : d ≡ cond (undecided v && eqb (v .rotor .king) (v .own)) b 2) where
+module _ (v : View) {m : Received} {n : Counts} {h b d : ℕ} (active : undecided v ≡ true) (counts : CountsBits 4 m n) (heard : h ≡ length (m .heard))
+    (bit : b ≡ adoptedFrom (v .bit .own) (n .zeros) (n .ones) h) (said : d ≡ cond (eqb (v .rotor .king) (v .own)) b 2) where
   adopted-is : b ≡ bitAdopted v m
   unfolding adoptedFrom bitAdopted proposalThird
-  adopted-is = bit ∙ rw (heard, counts .zeros, counts .ones)
+  adopted-is = bit ∙ rw (active, heard, counts .zeros, counts .ones)
 
   -- s is the strong of the bit a, with m proposals
   turned : (a k s : ℕ) → b ≡ a → k ≡ count (says 4 a) m → s ≡ cond (twoThirds k h) 1 0 → TurnsBit v m (record { bit = b; strong = s; said = d })
   unfolding strongAfter proposalTwoThirds opinion
   turned a k s e counted strong =
-      record { bit = adopted-is; strong = strong ∙ rw (← adopted-is, e, counted, heard); said = said ∙ rw (← adopted-is) }
+      record { bit = adopted-is; strong = strong ∙ rw (← adopted-is, e, counted, heard); said = said ∙ rw (active, ← adopted-is) }
 
   turned-zero : (s : ℕ) → b ≡ 0 → s ≡ cond (twoThirds (n .zeros) h) 1 0 → TurnsBit v m (record { bit = b; strong = s; said = d })
   turned-zero s e strong = turned 0 (n .zeros) s e (counts .zeros) strong
@@ -49,19 +49,16 @@ strong-of-requires c κs = let pre = c .before .before .before .pre in (pre .0, 
 strong-of-requires-2 : tie.Need-strong-of-requires-2
 strong-of-requires-2 c κs = let pre = c .before .before .before .pre in (pre .1, pre .2)
 
--- `adoptedFrom` looks at no list, so the view of the bare fields does for it
 returns : tie.Need-returns
-unfolding adoptedFrom
-returns c l x e m counts heard =
+returns c l x e m active counts heard =
     let call = c .before .before .before in
-    turned-zero (view (stateOf (call .before .args .fields) l x e)) counts heard (call .adopted .ensures) (c .before .before .opinion-of .ensures) _
+    turned-zero (view (stateOf (call .before .args .fields) l x e)) active counts heard (call .adopted .ensures) (c .before .before .opinion-of .ensures) _
     (c .before .if1 .taken) (c .strong-of .ensures)
 
 returns-2 : tie.Need-returns-2
-unfolding adoptedFrom
-returns-2 c l x e m counts heard =
+returns-2 c l x e m active counts heard =
     let call = c .before .before .before in
-    turned-one (view (stateOf (call .before .args .fields) l x e)) counts heard (call .adopted .ensures) (c .before .before .opinion-of .ensures) _
+    turned-one (view (stateOf (call .before .args .fields) l x e)) active counts heard (call .adopted .ensures) (c .before .before .opinion-of .ensures) _
     (call .before .pre .3) (c .before .if1 .left) (c .strong-of2 .ensures)
 
 pub spoken-spec : {M : Type 1} → statement M

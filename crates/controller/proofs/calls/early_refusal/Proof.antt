@@ -1,18 +1,28 @@
 -- `controller::calls::early_refusal` meets its contract: each test that fails gives its number, since those before it were passed.
-use mathlib.Core.Bool.{true}
-use mathlib.Core.Path.{_≡_, sym, _∙_}
+use mathlib.Core.Bool.{true, not, _||_, Bool·not-not}
+use mathlib.Core.Logic.{inl, inr}
+use mathlib.Core.Path.{_≡_, sym, ap, _∙_}
 use borrow.Author.Needs.{needs}
-use borrow.Author.Tests.{lt-ltb, le-ltb, lt-leb, le-leb, eq-eqb, ne-eqb, not-true, not-false}
+use borrow.Author.Tests.{leb-true, leb-false, lt-ltb, le-ltb, lt-leb, le-leb, eq-eqb, ne-eqb, not-true, not-false}
 use denote.Ref.{now}
-use lib.Dec.{leb, ltb}
+use lib.Dec.{leb}
 use Rattle.wire.specs.Limits.{maxFrame, lastRound}
 use Rattle.wire.specs.Tray.{wellFormed}
 use Rattle.controller.specs.Fields.{wholeOf}
-use Rattle.controller.specs.State.{sound}
+use Rattle.controller.specs.Laws.Lists.{true-or-false}
+use Rattle.controller.specs.Refusals.{worksOn}
+use Rattle.controller.specs.State.{View, view, undecided, sound}
 use Rattle.controller.specs.Work.Calls.{earlyRefusal}
 use Rattle.controller.specs.declared.state.State.{State}
 use Rattle.controller.proofs.calls.early_refusal.Statement.{statement}
 use Rattle.controller.proofs.calls.early_refusal.Tie as tie
+
+-- a state works on where the test of its round and its decision fails
+works : (v : View) → worksOn v ≡ not (leb lastRound (v .round) || not (undecided v))
+works v = elim (true-or-false (leb lastRound (v .round))) [
+  | inl e ↦ rw (e, le-ltb (v .round) lastRound (leb-true lastRound (v .round) e))
+  | inr e ↦ rw (e, lt-ltb (v .round) lastRound (leb-false lastRound (v .round) e)) (sym (Bool·not-not (undecided v)))
+]
 
 -- what was given
 abbrev given : tie.Else1 → tie.Start
@@ -25,7 +35,7 @@ state c =
 
 -- the place before each test, from the next one's
 abbrev first : tie.Else2 → tie.Else1
-first c = c .before .before
+first c = c .before .before .before
 
 abbrev third : tie.Else4 → tie.Else3
 third c = c .before .before
@@ -35,8 +45,8 @@ third c = c .before .before
 passed-1 : (c : tie.Else1) → sound (state c) ≡ true
 passed-1 c = sym (c .before .is-sound .ensures) ∙ not-false _ (c .if1 .left)
 
-passed-2 : (c : tie.Else2) → ltb (state (first c) .round) lastRound ≡ true
-passed-2 c = lt-ltb _ _ (c .if2 .left)
+passed-2 : (c : tie.Else2) → worksOn (view (state (first c))) ≡ true
+passed-2 c = works (view (state (first c))) ∙ ap not (c .if2 .left)
 
 passed-3 : (c : tie.Else3) → leb maxFrame (given (first (c .before)) .args .room) ≡ true
 passed-3 c = le-leb _ _ (c .if3 .left)
@@ -59,7 +69,9 @@ returns c = rw (sym (c .before .is-sound .ensures) ∙ not-true _ (c .if1 .taken
 
 returns-2 : tie.Need-returns-2
 unfolding earlyRefusal
-returns-2 c = rw (passed-1 (c .before .before), le-ltb _ lastRound (c .if2 .taken))
+returns-2 c =
+    let at = c .before .before .before in
+    rw (passed-1 at, works (view (state at)) ∙ ap not (c .if2 .taken))
 
 returns-3 : tie.Need-returns-3
 unfolding earlyRefusal

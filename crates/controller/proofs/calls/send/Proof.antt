@@ -1,4 +1,5 @@
--- `controller::calls::send` meets its contract: the frame that is written is the state's own, which the writer allows since the state is sound.
+-- `controller::calls::send` meets its contract: a decided state sends nothing; else the frame that is written is the state's own, which the writer allows
+-- since the state is sound.
 use Prim.Native.Nat.{ℕ, _-_, _≤_}
 use mathlib.Core.Bool.{Bool, true, false, cond}
 use mathlib.Core.List.{List, []}
@@ -6,7 +7,7 @@ use mathlib.Core.Path.{_≡_, refl, ap, _∙_}
 use native.Mathlib.Nat.{sub-zero}
 use native.Mathlib.Omega.{arith}
 use borrow.Author.Needs.{needs}
-use borrow.Author.Tests.{le-leb}
+use borrow.Author.Tests.{le-leb, eq-eqb, ne-eqb}
 use denote.Ref.{now}
 use lib.Dec.{ltb}
 use lib.ListN.{length, take, drop}
@@ -14,7 +15,7 @@ use Rattle.controller.specs.Fields.{stateOf}
 use Rattle.controller.specs.Laws.Received.{frame-writable}
 use Rattle.controller.specs.Laws.State.{rules-give}
 use Rattle.controller.specs.Received.{frameOf}
-use Rattle.controller.specs.State.{view, soundRules}
+use Rattle.controller.specs.State.{view, undecided, soundRules}
 use Rattle.controller.specs.Work.Calls.{Sends}
 use Rattle.controller.specs.declared.state.State.{State}
 use Rattle.wire.specs.Frame.{Content, kindOf, saidBy, maxCount, writeRefusal, FrameWrites}
@@ -40,13 +41,16 @@ module _ (s : State) where
       pick true = refl
       pick false = refl
 
-  writes : soundRules s ≡ true → (b : List ℕ) → maxFrame ≤ length b → (w : Written) (a : List ℕ)
+  writes : soundRules s ≡ true → undecided (view s) ≡ true → (b : List ℕ) → maxFrame ≤ length b → (w : Written) (a : List ℕ)
       → FrameWrites (frameOf (view s)) b w a → Sends (view s) b (w .length) a
   unfolding writeRefusal
-  writes h b room w a f =
-      let allowed = frame-writable (view s) (rules-give s h) in
+  writes h active b room w a f =
+      let allowed = frame-writable (view s) (rules-give s h) active in
       let roomy = le-leb maxFrame (length b) room in
-      record { written = f .written ∙ rw (allowed, roomy); output = f .output ∙ rw (allowed, roomy) }
+      record { written = f .written ∙ rw (active, allowed, roomy); output = f .output ∙ rw (active, allowed, roomy) }
+
+  stays-quiet : undecided (view s) ≡ false → (b : List ℕ) → Sends (view s) b 0 b
+  stays-quiet decided b = record { written = rw decided; output = rw decided }
 
 -- the numbers that are sent are lent
 fits-places : (k m n l : ℕ) → m ≤ l → n ≡ cond (ltb 0 (maxCount k)) m 0 → n ≤ l
@@ -56,19 +60,24 @@ fits-places k m n l all e = rw e (pick (ltb 0 (maxCount k)))
     pick true = all
     pick false = omega arith
 
--- what was lent; what is asked of `write_frame`, and what it has written
-abbrev lent : tie.After-kind-of → tie.Start
-lent c = c .before .before .before
-
+-- what is asked of `write_frame`, and what it has written
 abbrev asked : tie.After-write-frame → tie.After-sent-count
 asked c = c .before .before .before
 
 abbrev written : tie.After-slice-known2 → tie.After-write-frame
 written c = c .before .before
 
--- what was given
+-- that there is no decision, and what was given
+abbrev active : tie.After-sent-count → tie.Else1
+active c = c .before .before .before
+
 abbrev given : tie.After-sent-count → tie.Start
-given c = lent (c .before .before)
+given c = active c .before .before .before .before
+
+returns : tie.Need-returns
+returns c h d sound =
+    let a = c .before .before .before .before .args in
+    stays-quiet (stateOf (a .fields) h d (now (a .echoes))) (ne-eqb _ _ (c .if1 .taken)) (now (a .out))
 
 kind-of-requires : tie.Need-kind-of-requires
 kind-of-requires c κs = search needs
@@ -94,18 +103,20 @@ write-frame-requires c κs = search needs
 same-length : tie.Need-same-length
 same-length c = search needs
 
-returns : tie.Need-returns
-returns c h d sound =
+returns-2 : tie.Need-returns-2
+returns-2 c h d sound =
     let counted = asked (written c) in
     let start = given counted in
     let s = stateOf (start .args .fields) h d (now (start .args .echoes)) in
     let content = content-is s _ _ _ (counted .before .before .kind-of .ensures) (counted .sent-count .ensures) (counted .before .said-by .ensures) in
-    writes s sound (now (start .args .out)) (start .pre .0) (written c .write-frame .result) _ (rw content at (written c .write-frame .ensures))
+    writes s sound (eq-eqb _ _ (active counted .if1 .left)) (now (start .args .out)) (start .pre .0) (written c .write-frame .result) _
+    (rw content at (written c .write-frame .ensures))
 
 pub send-spec : {M : Type 1} → statement M
 send-spec =
     tie.close
     (tie.spec
+    returns
     kind-of-requires
     said-by-requires
     sent-count-requires
@@ -114,4 +125,4 @@ send-spec =
     part-write-frame-end
     write-frame-requires
     same-length
-    returns)
+    returns-2)

@@ -44,7 +44,7 @@ module _ {s : State} {b f : List ℕ} (ready : Ready s b f) (early : s .round < 
       let es = entries b in
       let both = and-eq-true-iff (leb (length ((next (view s) es) .rotor .candidates)) maxNumbers)
       (leb (length ((next (view s) es) .rotor .echoes)) maxNumbers) .0 fits in
-      rules-test _ (s .since) (next-sound (view s) es (rules-give s (ready .sound)) early (ready .numbered) (ready-short ready)
+      rules-test _ (s .since) (next-sound (view s) es (rules-give s (ready .sound)) (ready .active) early (ready .numbered) (ready-short ready)
       (leb-true _ _ (both .0)) (leb-true _ _ (both .1)))
 
   echoes-inside : t ≡ true → g .echoes ≤ length e

@@ -146,7 +146,7 @@ loop-again c =
     let l = lists (receivedBy (state at-loop) (now (a .tray))) in
     let so-far : Opening l (now (a .own)) (now (a .tray)) (v .starts) (v .counts) (v .sent) (v .len) (v .j) = rw (sym else) (v .inv .2) in
     let adds = rw (list-is (turn call)) at (received c .open-received .ensures) in
-    let sound = list-at-sound (view (state at-loop)) (entries (now (a .tray))) (rules-give (state at-loop) (ready .sound)) (v .j) in
+    let sound = list-at-sound (view (state at-loop)) (entries (now (a .tray))) (rules-give (state at-loop) (ready .sound)) (ready .active) (v .j) in
     let more =
     opening-more l (call .alike .result) sound bytes (ready-short ready)
     (alike .some) (omega (arith, ready-size ready, alike .inside)) (ready-alike ready (v .j) (call .alike .result) alike) so-far adds in

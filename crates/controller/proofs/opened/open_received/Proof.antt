@@ -1,16 +1,17 @@
--- `controller::opened::open_received` meets its contract: under the own number the own list is received, which is open; under another the list of its frame.
+-- `controller::opened::open_received` meets its contract: under the own number, and of one that is silent, the own list is received, which is open; under
+-- another number the list of its frame.
 use Prim.Native.Nat.{ℕ}
-use mathlib.Core.Bool.{Bool, true, false, cond}
+use mathlib.Core.Bool.{Bool, true, false, cond, _||_}
 use mathlib.Core.List.{List, []}
-use mathlib.Core.Logic.{_≢_, inl}
+use mathlib.Core.Logic.{inl}
 use mathlib.Core.Path.{_≡_, refl, sym, ap, _∙_}
 use native.Mathlib.Omega.{arith}
 use borrow.Author.Needs.{needs}
-use borrow.Author.Tests.{eq-eqb, ne-eqb}
 use denote.Ref.{now}
-use lib.Dec.{ltb}
+use lib.Dec.{ltb, eqb}
 use lib.ListN.{take}
 use Rattle.wire.specs.Frame.{kindOf, maxCount}
+use Rattle.wire.specs.Notes.{noFrame}
 use Rattle.wire.specs.Words.{wordsAt}
 use Rattle.controller.specs.Received.{readIn, listIn}
 use Rattle.controller.specs.Work.Opened.{listUnder, SpanOf}
@@ -20,15 +21,15 @@ use Rattle.controller.proofs.opened.open_received.Statement.{statement}
 use Rattle.controller.proofs.opened.open_received.Tie as tie
 
 module _ (f : Fields) (e b : List ℕ) (x i : ℕ) where
-  oneself : x ≡ f .own → listUnder f e b x i ≡ take (sentCount f) e
-  oneself same = rw (eq-eqb x (f .own) same) (pick (ltb 0 (maxCount (kindOf (f .round)))))
+  own-list : (eqb x (f .own) || eqb i noFrame) ≡ true → listUnder f e b x i ≡ take (sentCount f) e
+  own-list t = rw t (pick (ltb 0 (maxCount (kindOf (f .round)))))
     where
       pick : (t : Bool) → cond t (take (f .echoes) e) [] ≡ take (cond t (f .echoes) 0) e
       pick true = refl
       pick false = refl
 
-  another : x ≢ f .own → listIn (readIn (f .round) (noted b i)) ≡ listUnder f e b x i
-  another d = rw (ne-eqb x (f .own) d)
+  sent-list : (eqb x (f .own) || eqb i noFrame) ≡ false → listIn (readIn (f .round) (noted b i)) ≡ listUnder f e b x i
+  sent-list t = rw t
 
 -- what lies at a place has the numbers that are read there
 span-words : {b l : List ℕ} {start count : ℕ} → SpanOf b l start count → SpanOf b (wordsAt b start count) start count
@@ -62,7 +63,7 @@ returns c =
     let a = start .args in
     inl (record {
       same =
-          oneself (a .fields) (now (a .own)) (now (a .tray)) (a .x) (a .note) (c .before .if1 .taken)
+          own-list (a .fields) (now (a .own)) (now (a .tray)) (a .x) (a .note) (c .before .if1 .taken)
           ∙ ap (λ (n : ℕ). take n (now (a .own))) (sym (start .pre .1 .0));
       starts = refl;
       counts = refl;
@@ -93,7 +94,7 @@ returns-2 c =
     let opened = added c in
     let found = asked (opened .before) in
     let a = given (found .before .before) .args in
-    let list = found .list-of .ensures .is ∙ another (a .fields) (now (a .own)) (now (a .tray)) (a .x) (a .note) (found .before .if1 .left) in
+    let list = found .list-of .ensures .is ∙ sent-list (a .fields) (now (a .own)) (now (a .tray)) (a .x) (a .note) (found .before .if1 .left) in
     rw list at (opened .open-list .ensures)
 
 pub open-received-spec : {M : Type 1} → statement M

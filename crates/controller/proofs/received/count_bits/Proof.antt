@@ -10,10 +10,10 @@ use lib.ListN.{getD, take}
 use lib.Seq.{take-all}
 use Rattle.controller.specs.Fields.{stateOf}
 use Rattle.controller.specs.Laws.Lists.{count-further}
-use Rattle.controller.specs.Laws.Work.Ready.{ready-listed, ready-used, ready-says}
+use Rattle.controller.specs.Laws.Work.Ready.{ready-listed, ready-used, bitHad, ready-says}
 use Rattle.controller.specs.Lists.{countIf}
 use Rattle.controller.specs.Received.{says}
-use Rattle.controller.specs.Work.Received.{receivedBy, Ready, bitUnder}
+use Rattle.controller.specs.Work.Received.{receivedBy, Ready}
 use Rattle.controller.specs.declared.state.State.{State}
 use Rattle.wire.specs.Frame.{kindOf}
 use Rattle.wire.specs.Limits.{maxNumbers}
@@ -32,7 +32,7 @@ total s b bit j = countIf (counted s b bit) (take j (listed (s .heard)))
 module _ {s : State} {b f : List ℕ} (ready : Ready s b f) (bit j n : ℕ) (sum : n ≡ total s b bit j) where
   -- one turn: the bit d that is read at place j, counted
   turn : (d one : ℕ) → bit < 3 → j < s .heard .len
-      → d ≡ bitUnder (s .own) (s .round) (s .said) b (getD (s .heard .at) j 0) (getD f j 0) → one ≡ cond (eqb d bit) 1 0
+      → d ≡ bitHad ready (getD (s .heard .at) j 0) (getD f j 0) → one ≡ cond (eqb d bit) 1 0
       → n + one ≡ total s b bit (j + 1)
   turn d one l h read asked =
       let more : one ≡ cond (counted s b bit (getD (listed (s .heard)) j 0)) 1 0 =
@@ -44,7 +44,7 @@ module _ {s : State} {b f : List ℕ} (ready : Ready s b f) (bit j n : ℕ) (sum
   ended h = sum ∙ ap (countIf (counted s b bit)) (take-all j (listed (s .heard)) (omega (arith, h, ready-used ready)) ∙ ready-listed ready)
 
 abbrev Inv-loop : tie.InvT-loop
-Inv-loop fields heard tray notes zeros₀ ones₀ j₀ zeros ones j =
+Inv-loop fields heard tray notes silent zeros₀ ones₀ j₀ zeros ones j =
     (j ≤ fields .heard)
     × (zeros ≤ j)
     × (ones ≤ j)
@@ -52,7 +52,7 @@ Inv-loop fields heard tray notes zeros₀ ones₀ j₀ zeros ones j =
     → (zeros ≡ total (stateOf fields heard c e) tray 0 j) × (ones ≡ total (stateOf fields heard c e) tray 1 j))
 
 abbrev μ-loop : tie.MeasureT-loop
-μ-loop fields heard tray notes zeros₀ ones₀ j₀ zeros ones j = fields .heard - j
+μ-loop fields heard tray notes silent zeros₀ ones₀ j₀ zeros ones j = fields .heard - j
 
 one-most : (d bit : ℕ) → cond (eqb d bit) 1 0 ≤ 1
 one-most d bit = pick (eqb d bit)
@@ -63,7 +63,7 @@ one-most d bit = pick (eqb d bit)
 
 -- what was given, and the turn in which a bit is received
 abbrev given : tie.At-loop Inv-loop μ-loop → tie.Start Inv-loop μ-loop
-given c = c .before .before
+given c = c .before .before .before
 
 abbrev in-turn : tie.After-received-bit Inv-loop μ-loop → tie.Then1 Inv-loop μ-loop
 in-turn c = c .before .before .before
@@ -71,6 +71,9 @@ in-turn c = c .before .before .before
 -- a place of the list is one of 64
 inside : (c : tie.Then1 Inv-loop μ-loop) → c .before .before .loop .j < maxNumbers
 inside c = omega (arith, c .if1 .taken, given (c .before .before) .pre)
+
+silent-bit-requires : tie.Need-silent-bit-requires Inv-loop μ-loop
+silent-bit-requires c κs = search needs
 
 loop-holds : tie.Need-loop-holds Inv-loop μ-loop
 loop-holds c = (omega arith, omega arith, omega arith, λ x e ready. (refl, refl))
@@ -114,15 +117,17 @@ loop-less c = omega (arith, in-turn (c .before .before) .if1 .taken)
 
 loop-again : tie.Need-loop-again Inv-loop μ-loop
 loop-again c =
-    let v = in-turn (c .before .before) .before .before .loop in
+    let at-loop = in-turn (c .before .before) .before .before in
+    let v = at-loop .loop in
     let h = in-turn (c .before .before) .if1 .taken in
-    let bit = c .before .before .received-bit in (
+    let bit = c .before .before .received-bit in
+    let read = rw (at-loop .before .silent-bit .ensures) at (bit .ensures) in (
       omega (arith, h),
       omega (arith, v .inv .1, c .before .one-if .ensures, one-most (bit .result) 0),
       omega (arith, v .inv .2, c .one-if2 .ensures, one-most (bit .result) 1),
       λ x e ready. (
-        turn ready 0 (v .j) (v .zeros) (v .inv .3 x e ready .0) _ _ (omega arith) h (bit .ensures) (c .before .one-if .ensures),
-        turn ready 1 (v .j) (v .ones) (v .inv .3 x e ready .1) _ _ (omega arith) h (bit .ensures) (c .one-if2 .ensures),
+        turn ready 0 (v .j) (v .zeros) (v .inv .3 x e ready .0) _ _ (omega arith) h read (c .before .one-if .ensures),
+        turn ready 1 (v .j) (v .ones) (v .inv .3 x e ready .1) _ _ (omega arith) h read (c .one-if2 .ensures),
       ),
     )
 
@@ -144,6 +149,7 @@ count-bits-spec =
     (tie.spec
     Inv-loop
     μ-loop
+    silent-bit-requires
     loop-holds
     mul-received-bit
     element-copy-out-received-bit

@@ -31,7 +31,7 @@ returns : tie.Need-returns
 returns c = λ w e ready k.
     let proposals = rw (kind-before _ 1 (rules-give _ (ready .sound) .early) k) at (counted c .count-bits .ensures .1 w e ready) in
     turn-made ready (c .before .spoken .result) k
-    (c .before .spoken .ensures (now ((given c) .args .heard)) w e _ proposals (ready-size ready))
+    (c .before .spoken .ensures (now ((given c) .args .heard)) w e _ (ready .active) proposals (ready-size ready))
 
 pub make-turn-spec : {M : Type 1} → statement M
 make-turn-spec = tie.close (tie.spec count-bits-requires spoken-requires add-next returns)
