@@ -1,4 +1,5 @@
 // Frames on their way, and the tray that brings them, laid out as document 01, "Trays", has it.
+ghost use mathlib.Core.Path.{_≡_};
 ghost use Prim.Native.Nat.{_+_, _≤_, _<_};
 ghost use Rattle.wire.specs.Limits.{maxFrame};
 use wire::limits::MAX_FRAME;
