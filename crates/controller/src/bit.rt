@@ -37,6 +37,7 @@ fn king_opinion(
             fields.own,
             fields.round,
             fields.said,
+            NO_BIT,
             tray,
             king,
             notes[place],
@@ -59,9 +60,6 @@ pub(crate) fn bit_taken(
 {
     let bit = fields.bit;
     if fields.round < 3 {
-        return bit;
-    }
-    if fields.decision != NO_BIT {
         return bit;
     }
     if fields.strong != 0 {
@@ -93,14 +91,10 @@ pub(crate) struct Turn {
 }
 
 // The own bit, or the only bit whose proposals, `zeros` and `ones` among `h`, reach a third.
-fn adopted(fields: Fields, zeros: usize, ones: usize, h: usize) -> u8
+fn adopted(bit: u8, zeros: usize, ones: usize, h: usize) -> u8
     requires { ⌜ (zeros ≤ maxNumbers) × (ones ≤ maxNumbers) ⌝ }
     ensures { λ r. ⌜ r ≡ adoptedFrom (bare fields) zeros ones h ⌝ }
 {
-    let bit = fields.bit;
-    if fields.decision != NO_BIT {
-        return bit;
-    }
     if h <= 3 * zeros {
         if h <= 3 * ones { bit } else { 0 }
     } else if h <= 3 * ones {
@@ -118,13 +112,10 @@ fn strong_of(count: usize, h: usize) -> u8
     if 2 * h <= 3 * count { 1 } else { 0 }
 }
 
-// The bit, where the controller is undecided and the king is oneself; else 2.
+// The bit, where the king is oneself; else 2.
 fn opinion_of(fields: Fields, bit: u8) -> u8
     ensures { λ r. ⌜ r ≡ cond (undecided (bare fields) && eqb (fields .king) (fields .own)) bit 2 ⌝ }
 {
-    if fields.decision != NO_BIT {
-        return NO_BIT;
-    }
     if fields.king == fields.own {
         bit
     } else {
@@ -139,7 +130,7 @@ pub(crate) fn spoken(fields: Fields, counts: Counts, h: usize) -> Turn
 {
     let zeros = counts.zeros;
     let ones = counts.ones;
-    let bit = adopted(fields, zeros, ones, h);
+    let bit = adopted(fields.bit, zeros, ones, h);
     let said = opinion_of(fields, bit);
     if bit == 0 {
         Turn {

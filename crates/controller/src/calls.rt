@@ -94,11 +94,14 @@ fn refused_in_place(refusal: u8, fields: Fields) -> Worked
     }
 }
 
-// Writes the frame that is sent with a state, and returns its length.
+// Writes the frame that is sent with a state, and returns its length; a decided one sends nothing.
 fn send(fields: Fields, echoes: &[u32], out: &mut [u8]) -> usize
     requires { ⌜ (maxFrame ≤ length (now out)) × (fields .echoes ≤ length (now echoes)) ⌝ }
     ensures { λ r. ⌜ SendsFields fields (before echoes) (before out) r (after out) ⌝ }
 {
+    if fields.decision != NO_BIT {
+        return 0;
+    }
     let round = fields.round;
     let kind = kind_of(round);
     let said = said_by(kind, fields.said);
@@ -205,7 +208,7 @@ fn early_refusal(
 {
     if !is_sound(fields, heard, candidates, echoes, since) {
         1
-    } else if LAST_ROUND <= fields.round {
+    } else if (LAST_ROUND <= fields.round) | (fields.decision != NO_BIT) {
         2
     } else if room < MAX_FRAME {
         3

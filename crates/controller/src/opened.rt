@@ -17,6 +17,7 @@ use crate::alike::alike;
 use crate::received::sent_count;
 use crate::state::Fields;
 use wire::found::Found;
+use wire::found::NO_FRAME;
 use wire::found::found_by;
 use wire::limits::FRAME_HEADER;
 use wire::limits::MAX_NUMBERS;
@@ -146,7 +147,7 @@ fn open_received(
     requires { ⌜ Openings (now own) (now starts) (now counts) (now sent) len weight × OwnFirst fields (now counts) ⌝ }
     ensures { λ r. ⌜ AddsTo own tray (listUnder fields (before own) (before tray) x note) weight len starts counts sent r ⌝ }
 {
-    if x == fields.own {
+    if (x == fields.own) | (note == NO_FRAME) {
         sent[0] += weight;
         return len;
     }

@@ -20,6 +20,7 @@ use crate::lists::insert_at;
 use crate::lists::open_at;
 use crate::state::Fields;
 use wire::found::Found;
+use wire::found::NO_FRAME;
 use wire::found::found_by;
 use wire::found::note_with;
 use wire::frame::Read;
@@ -128,12 +129,23 @@ fn noted_bit(tray: &[u8], note: u32, round: u32) -> u8
     frame_bit(part_of(tray, offset, len), round)
 }
 
-// The bit of the frame received under the number `x`, with the note on it; 3 where it is void or there is not one.
-pub(crate) fn received_bit(own: u32, round: u32, said: u8, tray: &[u8], x: u32, note: u32) -> u8
-    ensures { λ r. ⌜ r ≡ bitUnder own round said (before tray) x note ⌝ }
+// The bit received under the number `x`, with the note on it: `said` from oneself, `silent` from one that was heard before and has no entry; 3 where the
+// frame is void or there are several.
+pub(crate) fn received_bit(
+    own: u32,
+    round: u32,
+    said: u8,
+    silent: u8,
+    tray: &[u8],
+    x: u32,
+    note: u32,
+) -> u8
+    ensures { λ r. ⌜ r ≡ bitUnder own round said silent (before tray) x note ⌝ }
 {
     if x == own {
         said
+    } else if note == NO_FRAME {
+        silent
     } else {
         noted_bit(tray, note, round)
     }
@@ -180,6 +192,7 @@ pub(crate) fn count_bits(
         let bit = received_bit(
             fields.own,
             fields.round,
+            fields.said,
             fields.said,
             tray,
             heard[j],

@@ -32,7 +32,7 @@ pub(crate) fn roster(
     let mut j = 0;
     while j < fields.heard {
         let x = heard[j];
-        let bit = received_bit(fields.own, fields.round, fields.said, tray, x, notes[j]);
+        let bit = received_bit(fields.own, fields.round, fields.said, fields.said, tray, x, notes[j]);
         if bit == NO_BIT {
             list[k] = x;
             k += 1;
@@ -40,13 +40,6 @@ pub(crate) fn roster(
         j += 1;
     }
     k
-}
-
-// Undecided, and the phase is at least the number of candidates.
-pub(crate) fn decides(decision: u8, candidates: usize, phase: usize) -> bool
-    ensures { λ r. ⌜ r ≡ (eqb decision 2 && leb candidates phase) ⌝ }
-{
-    (decision == NO_BIT) & (candidates <= phase)
 }
 
 // The candidate at the phase's place, 0 where there is none.

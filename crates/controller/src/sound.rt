@@ -49,7 +49,11 @@ fn said_sound(fields: Fields) -> bool
     ensures { λ r. ⌜ r ≡ soundSaid (bare fields) ⌝ }
 {
     let kind = kind_of(fields.round);
-    bit_fits(kind, fields.said) & ((kind != VALUE) | (fields.said == fields.bit))
+    if fields.decision == NO_BIT {
+        bit_fits(kind, fields.said) & ((kind != VALUE) | (fields.said == fields.bit))
+    } else {
+        fields.said == NO_BIT
+    }
 }
 
 // Candidates are empty in rounds 1 and 2, echoes in round 1.

@@ -13,7 +13,6 @@ use crate::bit::bit_taken;
 use crate::bit::proposal;
 use crate::bit::spoken;
 use crate::received::count_bits;
-use crate::rotation::decides;
 use crate::rotation::king_at;
 use crate::rotation::roster;
 use crate::state::Fields;
@@ -32,24 +31,18 @@ pub(crate) struct Made {
     pub fits: bool,
 }
 
-// (c): the fields `next`, whose lists and bit are made, with the decision and the king that follow from the decision `was` before the step.
-fn named(next: Fields, was: u8, candidates: &[u32; MAX_NUMBERS], phase: usize) -> Fields
+// (c): the fields `next`, whose lists and bit are made, with the decision or the king that follows. A controller that decides says nothing any more.
+fn named(next: Fields, candidates: &[u32; MAX_NUMBERS], phase: usize) -> Fields
     requires { ⌜ next .candidates ≤ maxNumbers ⌝ }
-    ensures { λ r. ⌜ ((h e : List ℕ) → stateOf r h (before candidates) e ≡ namedState (stateOf next h (before candidates) e) was phase) ⌝ }
+    ensures { λ r. ⌜ ((h e : List ℕ) → stateOf r h (before candidates) e ≡ namedState (stateOf next h (before candidates) e) phase) ⌝ }
 {
     let mut made = next;
-    let king = king_at(candidates, next.candidates, phase);
-    if decides(was, next.candidates, phase) {
+    made.king = king_at(candidates, next.candidates, phase);
+    if next.candidates <= phase {
         made.decision = next.bit;
-        made.king = 0;
-        made
-    } else if was == NO_BIT {
-        made.king = king;
-        made
-    } else {
-        made.king = 0;
-        made
+        made.said = NO_BIT;
     }
+    made
 }
 
 fn make_roster(
@@ -116,12 +109,7 @@ fn grown(fields: Fields, lists: Lists, bit: u8, candidates: &[u32; MAX_NUMBERS])
         next.said = bit;
         next.candidates = lists.candidates;
         next.echoes = lists.echoes;
-        let made = named(
-            next,
-            fields.decision,
-            candidates,
-            (fields.round / 3) as usize,
-        );
+        let made = named(next, candidates, (fields.round / 3) as usize);
         Made {
             fits: true,
             fields: made,
