@@ -450,9 +450,9 @@ fn who_is_silent_in_round_2_counts_as_sender_of_the_own_list() {
         (candidates(&c), echoes(&c))
     };
     assert_eq!(made(&[], &[]), (vec![11, 12], vec![11, 12]));
-    let other = roster(&[11]);
-    assert_eq!(made(&[3, 5], &[other.clone()]), (vec![11], vec![11, 12]));
-    for frames in no_silences(&other) {
+    let other = [roster(&[11])];
+    assert_eq!(made(&[3, 5], &other), (vec![11], vec![11, 12]));
+    for frames in no_silences(&other[0]) {
         assert_eq!(made(&[3], &frames), (vec![11, 12], vec![11, 12]));
         // In phase 0 nobody is a candidate then: it decides.
         assert_eq!(made(&[3, 5], &frames), (vec![], vec![11, 12]));
@@ -468,11 +468,11 @@ fn who_is_silent_counts_as_sender_of_the_own_value() {
             work(&mut c, from, frames);
             c.image[SAID]
         };
-        let other = short(3, 3, 1 - bit);
+        let other = [short(3, 3, 1 - bit)];
         assert_eq!(said(&[], &[]), bit);
-        assert_eq!(said(&[5], &[other.clone()]), bit);
-        assert_eq!(said(&[3, 5], &[other.clone()]), 2);
-        assert_eq!(said(&[3, 5, 9], &[other.clone()]), 1 - bit);
+        assert_eq!(said(&[5], &other), bit);
+        assert_eq!(said(&[3, 5], &other), 2);
+        assert_eq!(said(&[3, 5, 9], &other), 1 - bit);
         for frames in no_silences(&short(3, 3, bit)) {
             assert_eq!(said(&[9], &frames), bit);
             assert_eq!(said(&[5, 9], &frames), 2);
@@ -488,20 +488,20 @@ fn who_is_silent_counts_as_sender_of_the_own_proposal() {
         (c.image[BIT], c.image[STRONG])
     };
     for bit in [0, 1] {
-        let other = short(4, 4, 1 - bit);
+        let other = [short(4, 4, 1 - bit)];
         // It had the other bit, and proposed this one.
         assert_eq!(made([1 - bit, bit], &[], &[]), (bit, 1));
-        assert_eq!(made([1 - bit, bit], &[3], &[other.clone()]), (bit, 1));
+        assert_eq!(made([1 - bit, bit], &[3], &other), (bit, 1));
         // Proposals of both bits reach a third.
-        assert_eq!(made([bit, bit], &[3, 5], &[other.clone()]), (bit, 0));
+        assert_eq!(made([bit, bit], &[3, 5], &other), (bit, 0));
         for frames in no_silences(&short(4, 4, bit)) {
             assert_eq!(made([1 - bit, bit], &[3, 5], &frames), (bit, 0));
             assert_eq!(made([1 - bit, bit], &[3, 5, 9], &frames), (1 - bit, 0));
         }
         // None is a proposal too: the silent ones propose no bit.
         assert_eq!(made([bit, 2], &[], &[]), (bit, 0));
-        assert_eq!(made([bit, 2], &[3], &[other.clone()]), (bit, 0));
-        assert_eq!(made([bit, 2], &[3, 5], &[other.clone()]), (1 - bit, 0));
+        assert_eq!(made([bit, 2], &[3], &other), (bit, 0));
+        assert_eq!(made([bit, 2], &[3, 5], &other), (1 - bit, 0));
     }
 }
 
@@ -516,11 +516,11 @@ fn who_is_silent_counts_as_sender_of_the_own_list_in_a_turn() {
     let joined_and_echoes = |joined: &[u8], echoes: &[u8]| (joined.to_vec(), echoes.to_vec());
     let both = joined_and_echoes(&[11, 12], &[11, 12]);
     assert_eq!(made(&[], &[]), both);
-    let other = turn(2, &[12, 13]);
-    assert_eq!(made(&[3], &[other.clone()]), both);
+    let other = [turn(2, &[12, 13])];
+    assert_eq!(made(&[3], &other), both);
     let mixed = joined_and_echoes(&[12], &[11, 12, 13]);
-    assert_eq!(made(&[3, 9], &[other.clone()]), mixed);
-    for frames in no_silences(&other) {
+    assert_eq!(made(&[3, 9], &other), mixed);
+    for frames in no_silences(&other[0]) {
         assert_eq!(made(&[3], &frames), both);
         let echoed = joined_and_echoes(&[], &[11, 12]);
         assert_eq!(made(&[3, 9], &frames), echoed);
