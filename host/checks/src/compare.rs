@@ -12,6 +12,9 @@ use crate::{frames, states, trays};
 /// How many trays a case hands to one state, one after the other.
 const WALK: usize = 4;
 
+/// The answer for a state that no tray moves on.
+const ENDED: u8 = 2;
+
 /// How many answers there are: 0, for accepted, and the refusals up to 13.
 pub const ANSWERS: usize = 14;
 
@@ -91,7 +94,9 @@ pub fn case(seed: u64, counts: &mut Histogram) -> Result<(), String> {
         _ => (),
     }
     for _ in 0..WALK {
-        tray(&mut random, &pool, &mut lent, counts)?;
+        if tray(&mut random, &pool, &mut lent, counts)? == ENDED {
+            break;
+        }
     }
     Ok(())
 }
@@ -168,12 +173,13 @@ fn start(
     Ok(())
 }
 
+/// A tray for the state in the image, or for another if that is not sound; the answer.
 fn tray(
     random: &mut Random,
     pool: &[u32],
     lent: &mut Lent,
     counts: &mut Histogram,
-) -> Result<(), String> {
+) -> Result<u8, String> {
     let sound = Reference::answers(&lent.image)[1] != 0;
     let state = match sound {
         true => Fields::of(&lent.image),
@@ -191,7 +197,7 @@ fn tray(
         format!("tray of {length} bytes for a state of round {round}: {difference}")
     })?;
     counts.tray[usize::from(answer)] += 1;
-    if answer == 2 {
+    if answer == ENDED {
         let ended = ends(&state, lent.out.len()).map(u64::from);
         add_all(&mut counts.ends, &ended);
     }
@@ -205,7 +211,7 @@ fn tray(
         let silent = silences(&state, &tray, &lent.image).map(u64::from);
         add_all(&mut counts.silences, &silent);
     }
-    Ok(())
+    Ok(answer)
 }
 
 /// A new output buffer, often at the edge of what a frame needs, and any length.

@@ -22,7 +22,8 @@
 //! - [`edges`]: what an accepted tray did; [`copies`], what it had of copies;
 //! - [`records`]: damage to the record of first rounds, and what trays did to it;
 //! - [`quiet`]: damage to the bit said, decided states, and silence in trays;
-//! - [`network`], [`adversary`]: a whole network, and what its faulty ones send.
+//! - [`network`], [`adversary`]: a whole network, and what its faulty ones send;
+//!   [`stagger`], how they make correct ones stop at different rounds.
 
 #![forbid(unsafe_code)]
 
@@ -41,6 +42,7 @@ pub mod page;
 pub mod quiet;
 pub mod random;
 pub mod records;
+pub mod stagger;
 pub mod states;
 pub mod trays;
 pub mod voids;
