@@ -172,20 +172,7 @@ fn equal_lists(size: usize) -> Input {
     turn_tray(&state, |_| numbers(size))
 }
 
-/// The same, but two thirds of the others have no entry: the own list counts for them.
-fn turn_silent(size: usize) -> Input {
-    let mut state = state(size, 5);
-    state.candidates.clear();
-    state.echoes = numbers(size);
-    let others = numbers(size).into_iter().skip(1).step_by(3);
-    let frames = others.map(|n| (n, frame(5, NONE, &numbers(size))));
-    Input {
-        image: state.image(),
-        trays: vec![from_others(5, frames)],
-    }
-}
-
-/// Lists as in `equal_lists`, but no two neighbours send the same bytes, and the own list has its
+/// The same, but no two neighbours send the same bytes, and the own list has its
 /// last number off by one: no two lists are taken as one.
 fn equal_lists_apart(size: usize) -> Input {
     let mut state = state(size, 5);
@@ -194,6 +181,19 @@ fn equal_lists_apart(size: usize) -> Input {
     state.echoes[size - 1] += 1;
     let others = state.heard.iter().enumerate().skip(1);
     let frames = others.map(|(place, &n)| (n, frame(5, (place % 3) as u8, &numbers(size))));
+    Input {
+        image: state.image(),
+        trays: vec![from_others(5, frames)],
+    }
+}
+
+/// Equal lists, but two thirds of the others have no entry: the own list counts for them.
+fn turn_silent(size: usize) -> Input {
+    let mut state = state(size, 5);
+    state.candidates.clear();
+    state.echoes = numbers(size);
+    let others = numbers(size).into_iter().skip(1).step_by(3);
+    let frames = others.map(|n| (n, frame(5, NONE, &numbers(size))));
     Input {
         image: state.image(),
         trays: vec![from_others(5, frames)],
