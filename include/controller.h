@@ -49,7 +49,7 @@ extern "C" {
 /* The length of the longest tray. */
 #define CONTROLLER_TRAY_LEN 65535
 
-/* The last round: by then a controller that refused no tray of the run has decided. */
+/* The last round. A controller has decided by then, so that nothing is sent in it. */
 #define CONTROLLER_LAST_ROUND 195
 
 /* The answer for a call that was worked, then the refusals. */

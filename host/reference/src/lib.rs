@@ -61,7 +61,7 @@ pub fn decision(image: &[u8]) -> u8 {
     sound_state(image).map_or(255, |state| state.decision)
 }
 
-/// The last round sent; 0 for an image that is not sound.
+/// The last round sent, or the round of the decision; 0 for an image that is not sound.
 pub fn round(image: &[u8]) -> u32 {
     sound_state(image).map_or(0, |state| state.round)
 }

@@ -302,7 +302,7 @@ fn any_entry_brings_its_number() {
 
 #[test]
 fn the_last_tray_brings_a_number_in_round_194() {
-    let mut c = of_four(194, [2, 2]);
+    let mut c = of_four(194, [1, 2]);
     assert_eq!(c.tray(&tray_from(194, &[(8, &[])])), WORKED);
     assert_eq!(c.record(), [(3, 1), (5, 1), (7, 0), (8, 194), (9, 1)]);
 }
@@ -367,7 +367,7 @@ fn put_list(image: &mut [u8], at: usize, numbers: &[u8]) {
 /// Controller 7, undecided in a round, with its own bit and the bit said. It has heard
 /// 3, 5 and 9; all four are candidates, 5 is king, and the echoes are 11 and 12.
 fn of_four(round: u8, [bit, said]: [u8; 2]) -> Controller {
-    let mut c = Controller::start(7, bit.min(1));
+    let mut c = Controller::start(7, bit);
     c.image[7] = round;
     c.image[SAID] = said;
     c.image[KING] = 5;
