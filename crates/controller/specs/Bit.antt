@@ -1,7 +1,9 @@
--- The bit: document 01, "From one tray to the next frame": (a) and the decision of making round 3 + 3r, making rounds 4 + 3r and 5 + 3r.
+-- The bit: document 01, "From one tray to the next frame": (a) and the decision of making round 3 + 3r, making rounds 4 + 3r and 5 + 3r; and document 02,
+-- "A7. Let decided controllers go quiet".
 --     phase v              r, where round 3 + 3r is to be made
 --     bitTaken v r         (a): the own bit, or the king's opinion
 --     decisionAfter v r    (c): the decision
+--     valueSaid v r        what is said with the value: the own bit, or nothing by one that has decided
 --     proposal r           making round 4 + 3r: what is proposed
 --     bitAdopted v r       making round 5 + 3r: the own bit, or the bit that was proposed
 --     strongAfter v r      making round 5 + 3r: strong
@@ -35,6 +37,10 @@ decidesNow v r = decides (undecided v) (phase v) (v .rotor) (lists r)
 -- "the decision is the own bit"
 unfoldable pub decisionAfter : View → Received → ℕ
 decisionAfter v r = cond (decidesNow v r) (bitTaken v r) (v .bit .decision)
+
+-- "A controller sends nothing from the round of its decision on: .. said is 2"
+unfoldable pub valueSaid : View → Received → ℕ
+valueSaid v r = cond (eqb (decisionAfter v r) 2) (bitTaken v r) 2
 
 -- ---- values and proposals of a bit that reach a threshold
 

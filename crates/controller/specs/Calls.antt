@@ -1,19 +1,20 @@
--- What a call promises, for every input, refused ones too: document 01, "Refusals" and "Agreement between us and the developers".
+-- What a call promises, for every input, refused ones too: document 01, "Refusals" and "Agreement between us and the developers", and document 02,
+-- "A7. Let decided controllers go quiet".
 --     Promise k v p s given r left     the call is refused under k (0: not refused), in which case it returns the state s and leaves the buffer as
 --                                      it was; else it returns the state v, with the record whose places are p, and writes v's frame in front of what
---                                      stood in the buffer
+--                                      stood in the buffer; a decided state has no frame, so that the length is 0 and the buffer stays
 --     StartPromise, TrayPromise        the promises of start and of tray
 --     WorkPromise                      the promise of work: that of tray, of a state in parts
 use Prim.Native.Nat.{ℕ}
 use mathlib.Core.Bool.{cond}
-use mathlib.Core.List.{List, _++_}
+use mathlib.Core.List.{List, [], _++_}
 use mathlib.Core.Path.{_≡_}
 use lib.Dec.{eqb}
 use lib.ListN.{length, drop}
 use Rattle.wire.specs.Frame.{frameBytes}
 use Rattle.wire.specs.Lent.{before, after}
 use Rattle.wire.specs.Tray.{entries}
-use Rattle.controller.specs.State.{View, view, storedState, startView, startRounds, zeroState}
+use Rattle.controller.specs.State.{View, view, undecided, storedState, startView, startRounds, zeroState}
 use Rattle.controller.specs.Fields.{Lent, wholeBefore, answerOf}
 use Rattle.controller.specs.Received.{frameOf}
 use Rattle.controller.specs.First.{roundsAfter}
@@ -24,9 +25,9 @@ use Rattle.controller.specs.declared.state.Answer.{Answer}
 use Rattle.controller.specs.declared.state.Fields.{Fields}
 use Rattle.controller.specs.declared.state.Worked.{Worked}
 
--- the bytes of the frame that is sent with a state
+-- the bytes of the frame that is sent with a state; document 02, A7: "A controller sends nothing from the round of its decision on"
 abbrev pub sentBytes : View → List ℕ
-sentBytes v = frameBytes (frameOf v)
+sentBytes v = cond (undecided v) (frameBytes (frameOf v)) []
 
 pub record Promise (refusal : ℕ) (made : View) (rounds : List ℕ) (kept : State) (given : List ℕ) (r : Answer) (left : List ℕ) : Type 0 where
   pub number : r .refusal ≡ refusal

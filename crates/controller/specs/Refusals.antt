@@ -1,4 +1,5 @@
--- Refusals of start and tray: document 01, "Refusals": each number in just its stated case, "a tray is tested 1 to 8; start 9 then 3".
+-- Refusals of start and tray: document 01, "Refusals": each number in just its stated case, "a tray is tested 1 to 8; start 9 then 3"; and document 02,
+-- "A7. Let decided controllers go quiet".
 --     startRefusal number bit n     0, or the refusal of a start with an output buffer of n bytes
 --     trayRefusal s b n             0, or the refusal of the tray b by the state s
 use Prim.Native.Nat.{ℕ}
@@ -10,13 +11,17 @@ use Rattle.wire.specs.Limits.{maxNumbers, maxFrame, lastRound}
 use Rattle.wire.specs.Refusal.{firstFailed}
 use Rattle.wire.specs.Tray.{Entry, wellFormed, roundOf, entries}
 use Rattle.controller.specs.Lists.{mem}
-use Rattle.controller.specs.State.{View, view, sound}
+use Rattle.controller.specs.State.{View, view, undecided, sound}
 use Rattle.controller.specs.Received.{senders, receive}
 use Rattle.controller.specs.Rules.{next}
 use Rattle.controller.specs.declared.state.State.{State}
 
 unfoldable pub startRefusal : ℕ → ℕ → ℕ → ℕ
 startRefusal number bit n = firstFailed ((not (eqb number 0) && leb bit 1, 9) ∷ (leb maxFrame n, 3) ∷ [])
+
+-- 2: the state's round is 195, or it has decided: "a further tray gets refusal 2"
+abbrev pub worksOn : View → Bool
+worksOn v = ltb (v .round) lastRound && undecided v
 
 -- 6: "a sender is 0 or the own number"
 abbrev pub sendersFit : View → List Entry → Bool
@@ -34,7 +39,7 @@ unfoldable pub trayRefusal : State → List ℕ → ℕ → ℕ
 trayRefusal s b n =
     firstFailed
     ((sound s, 1)
-    ∷ (ltb (s .round) lastRound, 2)
+    ∷ (worksOn (view s), 2)
     ∷ (leb maxFrame n, 3)
     ∷ (wellFormed b, 4)
     ∷ (eqb (roundOf b) (s .round), 5)

@@ -5,7 +5,7 @@
 --     makeTurn v r         making round 5 + 3r
 --     step v r             the step of the state v that has received r, by the kind of the frame that is made
 --     next v es            the step with the entries es of a tray
--- Each step makes the next round, and whoever is heard with the tray is heard from then on.
+-- Each step makes the next round, and whoever is heard with the tray is heard from then on. A decided state takes no step: its trays are refused under 2.
 use Prim.Native.Nat.{_+_}
 use mathlib.Core.Bool.{cond}
 use mathlib.Core.List.{List}
@@ -15,7 +15,7 @@ use Rattle.wire.specs.Tray.{Entry}
 use Rattle.controller.specs.State.{View, Rotor, BitPart, undecided}
 use Rattle.controller.specs.Received.{Received, receive, lists}
 use Rattle.controller.specs.Rotation.{hearing, gathered, rotated}
-use Rattle.controller.specs.Bit.{phase, bitTaken, decisionAfter, proposal, bitAdopted, strongAfter, opinion}
+use Rattle.controller.specs.Bit.{phase, bitTaken, decisionAfter, valueSaid, proposal, bitAdopted, strongAfter, opinion}
 
 -- the state of the next round with these parts
 abbrev pub nextRound : View → Rotor → BitPart → View
@@ -28,7 +28,7 @@ makeRoster v r = nextRound v (gathered r (v .rotor)) (v .bit)
 abbrev pub makeValue : View → Received → View
 makeValue v r =
     nextRound v (rotated (undecided v) (phase v) (v .rotor) (lists r))
-    (record { own = bitTaken v r; said = bitTaken v r; strong = v .bit .strong; decision = decisionAfter v r })
+    (record { own = bitTaken v r; said = valueSaid v r; strong = v .bit .strong; decision = decisionAfter v r })
 
 abbrev pub makePropose : View → Received → View
 makePropose v r =

@@ -1,4 +1,5 @@
--- A controller's state: document 01, "A controller's state", and document 02, "A8. Show when each section was first heard".
+-- A controller's state: document 01, "A controller's state", and document 02, "A7. Let decided controllers go quiet" and "A8. Show when each section was
+-- first heard".
 --     View                 the ten things that document 01 lists, as numbers and lists, in parts: all that the rules of a step read
 --     Rotor                what belongs to the coordinator rotation; BitPart, what belongs to the bit
 --     stateFrom ..         the stored state with these fields, lists and places of the record
@@ -7,8 +8,8 @@
 --     storedState v p      the stored state of the view v, where p are the places of the record; recorded l, the places of the record l
 --     startView n b        the state after a start with number n and bit b; startRounds, the places of its record
 --     sound s              the papers' "sound": the rules that they list, and nothing more
---     soundRules s         document 01's rules of soundness
---     soundBeside o l w    document 02's: the places w of the record are in range beside the numbers l, of which o is the own one
+--     soundRules s         the rules of soundness of the ten things
+--     soundBeside o l w    those of the record: the places w of the record are in range beside the numbers l, of which o is the own one
 --     undecided v          the decision is 2, none
 use Prim.Native.Nat.{ℕ}
 use mathlib.Core.Bool.{Bool, true, false, not, cond, _&&_}
@@ -123,16 +124,19 @@ soundList n = leb (n .len) maxNumbers && rising 0 (listed n) && same (n .at) ((s
 abbrev pub isEmpty : List ℕ → Bool
 isEmpty l = eqb (length l) 0
 
--- "said is allowed for the round's kind and equals the own bit in a value round"
+-- "said is allowed for the round's kind and equals the own bit in a value round"; document 02, A7: "said is 2 (a sound decided state has just that)"
 abbrev pub soundSaid : View → Bool
-soundSaid v = bitFits (kindOf (v .round)) (v .bit .said) && cond (eqb (kindOf (v .round)) 3) (eqb (v .bit .said) (v .bit .own)) true
+soundSaid v =
+    cond (undecided v)
+    (bitFits (kindOf (v .round)) (v .bit .said) && cond (eqb (kindOf (v .round)) 3) (eqb (v .bit .said) (v .bit .own)) true)
+    (eqb (v .bit .said) 2)
 
 -- "candidates are empty in rounds 1 and 2; echoes are empty in round 1"
 abbrev pub soundEmpty : View → Bool
 soundEmpty v =
     cond (leb (v .round) 2) (isEmpty (v .rotor .candidates)) true && cond (leb (v .round) 1) (isEmpty (v .rotor .echoes)) true
 
--- document 01's rules
+-- all but the record
 unfoldable pub soundRules : State → Bool
 soundRules s =
     roundFits (s .round) && (not (eqb (s .own) 0) && mem (s .own) (listed (s .heard)))

@@ -1,12 +1,11 @@
 // The bit: what is taken from the king, proposed and adopted.
-ghost use mathlib.Core.Bool.{cond, true, _&&_};
+ghost use mathlib.Core.Bool.{cond, true};
 ghost use mathlib.Core.Path.{_≡_};
 ghost use Prim.Native.Nat.{_+_, _≤_};
 ghost use lib.Dec.{eqb};
 ghost use Rattle.wire.specs.Frame.{kindOf};
 ghost use Rattle.wire.specs.Limits.{maxNumbers};
-ghost use Rattle.controller.specs.Fields.{bare};
-ghost use Rattle.controller.specs.State.{view, undecided, soundList};
+ghost use Rattle.controller.specs.State.{view, soundList};
 ghost use Rattle.controller.specs.Thirds.{twoThirds};
 ghost use Rattle.controller.specs.Bit.{kingOpinion, bitTaken};
 ghost use Rattle.controller.specs.Work.Received.{receivedBy, WhereReady};
@@ -16,6 +15,7 @@ use crate::lists::has_at;
 use crate::lists::place_in;
 use crate::received::Counts;
 use crate::received::received_bit;
+use crate::received::silent_bit;
 use crate::state::Fields;
 use wire::limits::MAX_NUMBERS;
 use wire::limits::NO_BIT;
@@ -37,7 +37,7 @@ fn king_opinion(
             fields.own,
             fields.round,
             fields.said,
-            NO_BIT,
+            silent_bit(fields.round, fields.said),
             tray,
             king,
             notes[place],
@@ -93,7 +93,7 @@ pub(crate) struct Turn {
 // The own bit, or the only bit whose proposals, `zeros` and `ones` among `h`, reach a third.
 fn adopted(bit: u8, zeros: usize, ones: usize, h: usize) -> u8
     requires { ⌜ (zeros ≤ maxNumbers) × (ones ≤ maxNumbers) ⌝ }
-    ensures { λ r. ⌜ r ≡ adoptedFrom (bare fields) zeros ones h ⌝ }
+    ensures { λ r. ⌜ r ≡ adoptedFrom bit zeros ones h ⌝ }
 {
     if h <= 3 * zeros {
         if h <= 3 * ones { bit } else { 0 }
@@ -114,7 +114,7 @@ fn strong_of(count: usize, h: usize) -> u8
 
 // The bit, where the king is oneself; else 2.
 fn opinion_of(fields: Fields, bit: u8) -> u8
-    ensures { λ r. ⌜ r ≡ cond (undecided (bare fields) && eqb (fields .king) (fields .own)) bit 2 ⌝ }
+    ensures { λ r. ⌜ r ≡ cond (eqb (fields .king) (fields .own)) bit 2 ⌝ }
 {
     if fields.king == fields.own {
         bit

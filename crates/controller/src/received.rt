@@ -12,7 +12,7 @@ ghost use Rattle.wire.specs.Notes.{noFrame};
 ghost use Rattle.wire.specs.Tray.{wellFormed, entries};
 ghost use Rattle.controller.specs.State.{soundList};
 ghost use Rattle.controller.specs.Received.{senders, readIn};
-ghost use Rattle.controller.specs.Work.Received.{noted, othersOnly, receivedBy, Hears, bitUnder, CountsBits, WhereReady, sentCount, CountsFew};
+ghost use Rattle.controller.specs.Work.Received.{noted, othersOnly, receivedBy, Hears, bitUnder, CountsBits, WhereReady, sentCount, CountsFew, silentBit};
 ghost use Rattle.controller.specs.Work.Lists.{inPlaces};
 use crate::lists::ABSENT;
 use crate::lists::find_near;
@@ -29,6 +29,8 @@ use wire::frame::kind_of;
 use wire::frame::max_count;
 use wire::limits::ENTRY_WIDTH;
 use wire::limits::MAX_NUMBERS;
+use wire::limits::NO_BIT;
+use wire::limits::TURN;
 use wire::read::read_frame;
 use wire::tray::directory;
 use wire::tray::entry_count;
@@ -129,6 +131,13 @@ fn noted_bit(tray: &[u8], note: u32, round: u32) -> u8
     frame_bit(part_of(tray, offset, len), round)
 }
 
+// What one counts as saying that was heard before and has no entry: what oneself says, but no opinion.
+pub(crate) fn silent_bit(round: u32, said: u8) -> u8
+    ensures { λ r. ⌜ r ≡ silentBit round said ⌝ }
+{
+    if kind_of(round) == TURN { NO_BIT } else { said }
+}
+
 // The bit received under the number `x`, with the note on it: `said` from oneself, `silent` from one that was heard before and has no entry; 3 where the
 // frame is void or there are several.
 pub(crate) fn received_bit(
@@ -185,6 +194,7 @@ pub(crate) fn count_bits(
     requires { ⌜ fields .heard ≤ maxNumbers ⌝ }
     ensures { λ r. ⌜ CountsFew (fields .heard) r × WhereReady fields heard tray notes (λ s b. CountsBits (kindOf (s .round)) (receivedBy s b) r) ⌝ }
 {
+    let silent = silent_bit(fields.round, fields.said);
     let mut zeros = 0;
     let mut ones = 0;
     let mut j = 0;
@@ -193,7 +203,7 @@ pub(crate) fn count_bits(
             fields.own,
             fields.round,
             fields.said,
-            fields.said,
+            silent,
             tray,
             heard[j],
             notes[j],

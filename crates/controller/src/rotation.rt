@@ -1,9 +1,7 @@
-// The coordinator rotation: the roster, whether the controller decides, whom it names king.
-ghost use mathlib.Core.Bool.{_&&_};
+// The coordinator rotation: the roster, and whom the controller names king.
 ghost use mathlib.Core.List.{[]};
 ghost use mathlib.Core.Path.{_≡_};
 ghost use Prim.Native.Nat.{_≤_};
-ghost use lib.Dec.{leb, eqb};
 ghost use lib.ListN.{getD};
 ghost use Rattle.wire.specs.Lent.{before, after};
 ghost use Rattle.wire.specs.Frame.{kindOf};
@@ -13,6 +11,7 @@ ghost use Rattle.controller.specs.Rotation.{roster};
 ghost use Rattle.controller.specs.Work.Received.{receivedBy, WhereReady};
 ghost use Rattle.controller.specs.Work.Lists.{inPlaces};
 use crate::received::received_bit;
+use crate::received::silent_bit;
 use crate::state::Fields;
 use wire::limits::MAX_NUMBERS;
 use wire::limits::NO_BIT;
@@ -28,11 +27,20 @@ pub(crate) fn roster(
     requires { ⌜ (fields .heard ≤ maxNumbers) × (now list ≡ (stored []) .at) ⌝ }
     ensures { λ r. ⌜ WhereReady fields heard tray notes (λ s b. kindOf (s .round) ≡ 1 → inPlaces r (after list) ≡ stored (roster (receivedBy s b))) ⌝ }
 {
+    let silent = silent_bit(fields.round, fields.said);
     let mut k = 0;
     let mut j = 0;
     while j < fields.heard {
         let x = heard[j];
-        let bit = received_bit(fields.own, fields.round, fields.said, fields.said, tray, x, notes[j]);
+        let bit = received_bit(
+            fields.own,
+            fields.round,
+            fields.said,
+            silent,
+            tray,
+            x,
+            notes[j],
+        );
         if bit == NO_BIT {
             list[k] = x;
             k += 1;

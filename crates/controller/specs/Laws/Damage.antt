@@ -1,6 +1,6 @@
 -- Laws of damaged frames: demand 1's last sentence, a damaged frame never gets a well packed tray refused.
 use Prim.Native.Nat.{ℕ, _<_, _≤_}
-use mathlib.Core.Bool.{Bool, true, false, cond, true≢false}
+use mathlib.Core.Bool.{Bool, true, false, cond, true≢false, and-false}
 use mathlib.Core.List.{List, [], _∷_, _++_}
 use mathlib.Core.Logic.{_⊎_, inl, inr, _≢_}
 use mathlib.Core.Option.{Option, some, none}
@@ -19,7 +19,7 @@ use Rattle.wire.specs.Laws.Damage.{overwritten-packed, overwritten-round, overw
 use Rattle.controller.specs.Lists.{Rising, mem}
 use Rattle.controller.specs.Thirds.{third, twoThirds}
 use Rattle.controller.specs.State.{View, Rotor, view, sound}
-use Rattle.controller.specs.Received.{Received, frameOf, senders, readIn, receive, says, listIn, lists}
+use Rattle.controller.specs.Received.{Received, frameOf, standIn, senders, readIn, silent, receive, says, listIn, lists}
 use Rattle.controller.specs.Rotation.{roster, tally, echoed, candidatesAfter}
 use Rattle.controller.specs.Rules.{step}
 use Rattle.controller.specs.Refusals.{listsFit, trayRefusal}
@@ -164,14 +164,18 @@ fewer : (t : Bool) (o r : Option Content) → (cond t o none ≡ cond t o r) ⊎
 fewer true o r = inl refl
 fewer false o r = inr refl
 
+-- what is had of another number
+abbrev hadOf : View → List Entry → ℕ → Option Content
+hadOf v es x = cond (silent v es x) (some (standIn v)) (readIn (v .round) (under x es))
+
 -- where there is under x what there was, or one void frame, or several, the frame had from x is as before or none; the own frame comes from no tray
 received-damaged : (v : View) (new : List ℕ) (es es′ : List Entry) (x : ℕ) → content new (v .round) ≡ none
     → (under x es′ ≡ under x es) ⊎ ((under x es′ ≡ one new) ⊎ (under x es′ ≡ several))
     → ((receive v es′) .from x ≡ (receive v es) .from x) ⊎ ((receive v es′) .from x ≡ none)
 unfolding receive
 received-damaged v new es es′ x void (inl e) = inl (rw e)
-received-damaged v new es es′ x void (inr (inl e)) = rw (e, void) (fewer (eqb x (v .own)) (some (frameOf v)) (readIn (v .round) (under x es)))
-received-damaged v new es es′ x void (inr (inr e)) = rw e (fewer (eqb x (v .own)) (some (frameOf v)) (readIn (v .round) (under x es)))
+received-damaged v new es es′ x void (inr (inl e)) = rw (e, and-false (mem x (v .rotor .heard)), void) (fewer (eqb x (v .own)) (some (frameOf v)) (hadOf v es x))
+received-damaged v new es es′ x void (inr (inr e)) = rw (e, and-false (mem x (v .rotor .heard))) (fewer (eqb x (v .own)) (some (frameOf v)) (hadOf v es x))
 
 -- a frame of a well packed tray overwritten by as many bytes that are void in the state's round
 module _ (s : State) (b : List ℕ) (i : ℕ) (new : List ℕ) (packed : wellFormed b ≡ true) (counted : i < entryCount b)

@@ -127,7 +127,7 @@ next-stays-sound s b f =
     let heard = step-heard v (receive v es) in
     let used = beside-gives (s .own) (listed (s .heard)) (s .since) (sound-beside s (f .state)) .0 in
     let rounds = beside-test (s .own) ((receive v es) .heard) (firstsAfter v (firstRounds s) es) (firsts-fit v (firstRounds s) es good (f .early) used) in
-    sound-both (next v es) (roundsAfter s es) (next-sound v es good (f .early) (f .nonzero) (f .heard) (f .candidates) (f .echoes))
+    sound-both (next v es) (roundsAfter s es) (next-sound v es good (f .active) (f .early) (f .nonzero) (f .heard) (f .candidates) (f .echoes))
     (rw (step-own v (receive v es), heard) rounds)
 
 pub start-stays-sound : (number bit : ℕ) → number ≢ 0 → bit ≤ 1 → sound (storedState (startView number bit) startRounds) ≡ true

@@ -1,6 +1,6 @@
 -- Laws of the order of entries, document 02, "A5. Two different frames under one number": which frame counts does not hang on tray order.
 use Prim.Native.Nat.{ℕ}
-use mathlib.Core.Bool.{true, cond}
+use mathlib.Core.Bool.{true, cond, _&&_}
 use mathlib.Core.List.{List, List·Memᴰ·head, List·Memᴰ·tail, List·Memᴰ·cases-cons, List·Permᴰ, Permᴰ·symm}
 use mathlib.Core.List.{List·Permᴰ·nil, List·Permᴰ·cons, List·Permᴰ·swap, List·Permᴰ·trans}
 use mathlib.Core.Logic.{inl, inr}
@@ -12,7 +12,7 @@ use Rattle.wire.specs.Laws.Found.{under-order}
 use Rattle.wire.specs.Tray.{Entry, wellFormed, roundOf, entries}
 use Rattle.controller.specs.Lists.{In, Rising, mem, insertAll}
 use Rattle.controller.specs.State.{View, view, sound}
-use Rattle.controller.specs.Received.{frameOf, senders, readIn, receive}
+use Rattle.controller.specs.Received.{frameOf, standIn, senders, readIn, isNothing, receive}
 use Rattle.controller.specs.First.{firstsAfter, roundsAfter}
 use Rattle.controller.specs.Refusals.{trayRefusal}
 use Rattle.controller.specs.Calls.{Promise, TrayPromise}
@@ -67,7 +67,9 @@ module _ {es fs : List Entry} (p : List·Permᴰ es fs) where
       let heard = order-heard (v .rotor .heard) up in
       λ i. record {
         heard = heard i;
-        from = λ x. cond (eqb x (v .own)) (some (frameOf v)) (readIn (v .round) (under-order x p i));
+        from = λ x.
+            let u = under-order x p i in
+            cond (eqb x (v .own)) (some (frameOf v)) (cond (mem x (v .rotor .heard) && isNothing u) (some (standIn v)) (readIn (v .round) u));
       }
 
 -- ---- what a call promises

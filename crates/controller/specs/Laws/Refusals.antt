@@ -1,6 +1,6 @@
 -- Laws of refusals: what an accepted start or tray passed.
 use Prim.Native.Nat.{ℕ, zero, suc, _<_, _≤_}
-use mathlib.Core.Bool.{Bool, true, false, not, cond, _&&_, and-eq-true-iff}
+use mathlib.Core.Bool.{Bool, true, false, not, cond, _&&_, and-false, and-eq-true-iff}
 use mathlib.Core.List.{List, [], _∷_, _++_}
 use mathlib.Core.Logic.{_≢_, _↔_}
 use mathlib.Core.Path.{_≡_, refl, sym, _∙_}
@@ -12,10 +12,10 @@ use Rattle.wire.specs.Limits.{maxNumbers, maxFrame, lastRound}
 use Rattle.wire.specs.Refusal.{firstFailed}
 use Rattle.wire.specs.Tray.{Entry, wellFormed, roundOf, entries}
 use Rattle.controller.specs.Lists.{In, mem}
-use Rattle.controller.specs.State.{View, view, sound}
+use Rattle.controller.specs.State.{View, view, undecided, sound}
 use Rattle.controller.specs.Received.{senders, receive}
 use Rattle.controller.specs.Rules.{next}
-use Rattle.controller.specs.Refusals.{startRefusal, sendersFit, heardFit, listsFit, trayRefusal}
+use Rattle.controller.specs.Refusals.{startRefusal, worksOn, sendersFit, heardFit, listsFit, trayRefusal}
 use Rattle.controller.specs.Laws.Lists.{out-mem, mem-out}
 use Rattle.controller.specs.declared.state.State.{State}
 
@@ -48,7 +48,7 @@ start-accepted number bit n e =
 abbrev pub earlierTests : State → List ℕ → ℕ → List (Bool × ℕ)
 earlierTests s b n =
     (sound s, 1)
-    ∷ (ltb (s .round) lastRound, 2)
+    ∷ (worksOn (view s), 2)
     ∷ (leb maxFrame n, 3)
     ∷ (wellFormed b, 4)
     ∷ (eqb (roundOf b) (s .round), 5)
@@ -64,6 +64,7 @@ tray-refusal-is s b n = refl
 pub record Fits (s : State) (b : List ℕ) : Type 0 where
   pub state : sound s ≡ true
   pub early : s .round < lastRound
+  pub active : undecided (view s) ≡ true
   pub packed : wellFormed b ≡ true
   pub round : roundOf b ≡ s .round
   pub nonzero : ¬ In 0 (senders (entries b))
@@ -84,11 +85,13 @@ pub tray-accepted : (s : State) (b : List ℕ) (n : ℕ) → trayRefusal s b n �
 tray-accepted s b n e =
     let es = entries b in
     let passed = test-passed (earlierTests s b n ++ ((listsFit (view s) es, 8) ∷ [])) (omega arith) (sym (tray-refusal-is s b n) ∙ e) in
+    let second = and-eq-true-iff (ltb (s .round) lastRound) (undecided (view s)) .0 (passed 1) in
     let sixth = and-eq-true-iff (not (mem 0 (senders es))) (not (mem (s .own) (senders es))) .0 (passed 5) in
     let eighth = lists-fit (view s) es .0 (passed 7) in (
       record {
         state = passed 0;
-        early = ltb-true (s .round) lastRound (passed 1);
+        early = ltb-true (s .round) lastRound (second .0);
+        active = second .1;
         packed = passed 3;
         round = eqb-true (roundOf b) (s .round) (passed 4);
         nonzero = mem-out (senders es) (not-true (mem 0 (senders es)) (sixth .0));
@@ -108,6 +111,7 @@ tray-fits s b n f =
     rw (
       f .state,
       lt-ltb (s .round) lastRound (f .early),
+      f .active,
       f .packed,
       eq-eqb (roundOf b) (s .round) (f .round),
       out-mem (senders es) (f .nonzero),
@@ -115,6 +119,11 @@ tray-fits s b n f =
       le-leb (length ((receive (view s) es) .heard)) maxNumbers (f .heard),
       lists-fit (view s) es .1 (f .candidates, f .echoes),
     )
+
+-- a sound state that has decided refuses each tray under 2
+pub decided-refused : (s : State) (b : List ℕ) (n : ℕ) → sound s ≡ true → undecided (view s) ≡ false → trayRefusal s b n ≡ 2
+unfolding trayRefusal
+decided-refused s b n h u = rw (h, u, and-false (ltb (s .round) lastRound))
 
 -- a state that is not sound refuses each tray alike
 pub unsound-refused : (s : State) (b : List ℕ) (n : ℕ) → sound s ≡ false → trayRefusal s b n ≡ 1

@@ -1,9 +1,10 @@
 -- Laws of one step: which bullet makes which round, each field of the next state, and that a step that is not refused keeps soundness.
 use Prim.Native.Nat.{ℕ, _+_, _*_, _-_, _/_, _%_, _<_, _≤_}
-use mathlib.Core.Bool.{Bool, true, false, not, cond, _&&_, and-false, and-eq-true-iff}
+use mathlib.Core.Bool.{Bool, true, false, not, cond, _&&_, true≢false, and-false, and-eq-true-iff}
 use mathlib.Core.List.{List, Memᴰ·cast}
 use mathlib.Core.Logic.{inl, inr}
-use mathlib.Core.Path.{_≡_, refl, sym, ap}
+use mathlib.Core.Option.{some}
+use mathlib.Core.Path.{_≡_, refl, sym, ap, _∙_}
 use native.Mathlib.Decide.{ℕ-discrete}
 use native.Mathlib.Omega.{arith}
 use borrow.Author.Tests.{leb-true, le-leb, ne-eqb}
@@ -11,17 +12,18 @@ use lib.Dec.{leb, ltb, eqb}
 use lib.ListN.{length}
 use Rattle.wire.specs.Frame.{kindOf, bitFits}
 use Rattle.wire.specs.Limits.{maxNumbers, lastRound}
+use Rattle.wire.specs.Found.{under}
 use Rattle.wire.specs.Tray.{Entry}
-use Rattle.controller.specs.Lists.{In, Inside, Rising}
+use Rattle.controller.specs.Lists.{In, Inside, Rising, mem}
 use Rattle.controller.specs.State.{View, undecided}
-use Rattle.controller.specs.Received.{Received, frameOf, senders, receive, lists}
+use Rattle.controller.specs.Received.{Received, frameOf, standIn, senders, readIn, isNothing, silent, receive, lists}
 use Rattle.controller.specs.Rotation.{echoed, joined, candidatesAfter, decides, kingAfter, hearing}
 use Rattle.controller.specs.Bit.{phase, kingOpinion, bitTaken, decidesNow, decisionAfter, valueTwoThirds, proposalThird}
-use Rattle.controller.specs.Bit.{proposalTwoThirds, proposal, bitAdopted, strongAfter, opinion}
+use Rattle.controller.specs.Bit.{proposalTwoThirds, proposal, bitAdopted, strongAfter, opinion, valueSaid}
 use Rattle.controller.specs.Rules.{makeRoster, makeValue, makePropose, makeTurn, step, next}
-use Rattle.controller.specs.Laws.Lists.{true-or-false, insert-all-known}
+use Rattle.controller.specs.Laws.Lists.{true-or-false, in-mem, out-mem, in-or-not, insert-all-known}
 use Rattle.controller.specs.Laws.State.{SoundList, Sound}
-use Rattle.controller.specs.Laws.Received.{heard-in, heard-rising, received-positive}
+use Rattle.controller.specs.Laws.Received.{heard-in, heard-rising, under-entry, received-positive}
 use Rattle.controller.specs.Laws.Rotation.{Positive, roster-in, roster-rising, echoed-rising, echoed-positive, candidates-rising, candidates-positive}
 
 -- ---- which bullet makes which round
@@ -187,25 +189,39 @@ module _ (v : View) (r : Received) where
 -- ---- a step whose lists fit keeps soundness
 
 -- init and roster say the same
-said-first : (v : View) → Sound v → v .round ≡ 1 → bitFits (kindOf (v .round + 1)) (v .bit .said) ≡ true
+said-first : (v : View) → Sound v → undecided v ≡ true → v .round ≡ 1 → bitFits (kindOf (v .round + 1)) (v .bit .said) ≡ true
 unfolding bitFits kindOf
-said-first v h e = rw e (rw e at (h .said))
+said-first v h u e = rw e (rw e at (h .said u))
 
-said-bit : (v : View) (r : Received) → kindOf ((step v r) .round) ≡ 3 → (step v r) .bit .said ≡ (step v r) .bit .own
-unfolding step
-said-bit v r e = let k : kindOf (v .round + 1) ≡ 3 = rw (step-round v r) at e in rw k
+-- a value says the own bit, but for one that decides, which says nothing
+said-bit : (v : View) (r : Received) → undecided (step v r) ≡ true → kindOf ((step v r) .round) ≡ 3 → (step v r) .bit .said ≡ (step v r) .bit .own
+unfolding valueSaid
+said-bit v r u e =
+    let k : kindOf (v .round + 1) ≡ 3 = rw (step-round v r) at e in
+    let active : undecided (makeValue v r) ≡ true = rw (step-kind-value v r k) at u in
+    rw (step-kind-value v r k, active)
 
-module _ (v : View) (r : Received) (h : Sound v) where
-  said-fits : bitFits (kindOf ((step v r) .round)) ((step v r) .bit .said) ≡ true
-  unfolding bitFits
-  said-fits = rw (step-round v r) (pick (making (v .round) (h .early)))
+-- only a value decides
+said-quiet : (v : View) (r : Received) → undecided v ≡ true → undecided (step v r) ≡ false → (step v r) .bit .said ≡ 2
+unfolding valueSaid
+said-quiet v r u = step-any (λ w. undecided w ≡ false → w .bit .said ≡ 2) v r no (λ q. rw q) no no
+  where
+    no : {n : ℕ} → undecided v ≡ false → n ≡ 2
+    no q = absurd (true≢false (sym u ∙ q))
+
+module _ (v : View) (r : Received) (h : Sound v) (u : undecided v ≡ true) where
+  said-fits : undecided (step v r) ≡ true → bitFits (kindOf ((step v r) .round)) ((step v r) .bit .said) ≡ true
+  unfolding bitFits valueSaid
+  said-fits q = rw (step-round v r) (pick (making (v .round) (h .early)))
     where
       kind : (k : ℕ) → (v .round + 1) % 3 ≡ k → 2 ≤ v .round → kindOf (v .round + 1) ≡ 3 + k
       kind k e l = kind-later (v .round + 1) k (omega arith) e
 
       pick : Making (v .round) → bitFits (kindOf (v .round + 1)) ((step v r) .bit .said) ≡ true
-      pick (makes-roster e) = rw (step-roster v r e) (said-first v h e)
-      pick (makes-value p e) = rw (step-value v r p e, kind 0 (omega arith) (omega arith)) (le-leb _ 1 (bit-taken-bound v r (h .bit)))
+      pick (makes-roster e) = rw (step-roster v r e) (said-first v h u e)
+      pick (makes-value p e) =
+          let active : undecided (makeValue v r) ≡ true = rw (step-value v r p e) at q in
+          rw (step-value v r p e, kind 0 (omega arith) (omega arith), active) (le-leb _ 1 (bit-taken-bound v r (h .bit)))
       pick (makes-propose p e) = rw (step-propose v r p e, kind 1 (omega arith) (omega arith)) (le-leb _ 2 (proposal-bound r))
       pick (makes-turn p e) = rw (step-turn v r p e, kind 2 (omega arith) (omega arith)) (le-leb _ 2 (opinion-bound v r (h .bit)))
 
@@ -243,6 +259,7 @@ module _ (v : View) (r : Received) (h : Sound v) where
         };
         said = said-fits;
         said-value = said-bit v r;
+        quiet = said-quiet v r u;
         no-candidates = λ m. let e : v .round ≡ 1 = omega (arith, h .early) in rw (step-roster v r e) (h .no-candidates (omega arith));
         no-echoes = λ m. absurd (omega (arith, h .early));
         bit = step-any (λ w. w .bit .own ≤ 1) v r (h .bit) (bit-taken-bound v r (h .bit)) (h .bit) (bit-adopted-bound v r (h .bit));
@@ -284,22 +301,37 @@ heard-sound v es h z short =
       ];
     }
 
-pub next-sound : (v : View) (es : List Entry) → Sound v → v .round < lastRound → (¬ In 0 (senders es)) → length ((receive v es) .heard) ≤ maxNumbers
+pub next-sound : (v : View) (es : List Entry) → Sound v → undecided v ≡ true → v .round < lastRound → (¬ In 0 (senders es)) → length ((receive v es) .heard) ≤ maxNumbers
     → length ((next v es) .rotor .candidates) ≤ maxNumbers → length ((next v es) .rotor .echoes) ≤ maxNumbers → Sound (next v es)
-next-sound v es h l z few =
-    step-sound v (receive v es) h l (heard-in v es .1 (inr (h .hears-itself))) (heard-sound v es h z few) (received-positive v es h)
+next-sound v es h u l z few =
+    step-sound v (receive v es) h u l (heard-in v es .1 (inr (h .hears-itself))) (heard-sound v es h z few) (received-positive v es h u)
 
 -- the state v with those heard that are heard with the tray
 abbrev pub withHeard : View → List Entry → View
 withHeard v es = record { own = v .own; round = v .round; rotor = hearing ((receive v es) .heard) (v .rotor); bit = v .bit }
 
 -- it receives the same, and takes the same step
+-- who is heard with the tray has an entry, so that just those heard before can be silent
+silent-already-heard : (v : View) (es : List Entry) (x : ℕ) → silent (withHeard v es) es x ≡ silent v es x
+silent-already-heard v es x = elim (in-or-not x (senders es)) [
+  | inl i ↦ rw (under-entry x es i, and-false (mem x ((receive v es) .heard)), and-false (mem x (v .rotor .heard)))
+  | inr out ↦ elim (in-or-not x (v .rotor .heard)) [
+    | inl i ↦ rw (in-mem (heard-in v es .1 (inr i)), in-mem i)
+    | inr new ↦
+        rw (out-mem {x = x} ((receive v es) .heard) (λ i. elim (heard-in v es .0 i) [ inl j ↦ out j | inr j ↦ new j ]), out-mem (v .rotor .heard) new)
+  ]
+]
+
 received-already-heard : (v : View) (es : List Entry) → Rising (v .rotor .heard) → receive (withHeard v es) es ≡ receive v es
-unfolding receive frameOf
+unfolding receive frameOf standIn
 received-already-heard v es up =
     let heard = heard-known (withHeard v es) es (heard-rising v es up) (λ x i. heard-in v es .1 (inl i)) in
-    λ i. record { heard = heard i; from = (receive v es) .from }
+    λ i. record {
+      heard = heard i;
+      from = λ x.
+          cond (eqb x (v .own)) (some (frameOf v)) (cond (silent-already-heard v es x i) (some (standIn v)) (readIn (v .round) (under x es)));
+    }
 
 pub next-already-heard : (v : View) (es : List Entry) → Rising (v .rotor .heard) → next (withHeard v es) es ≡ next v es
-unfolding step echoed joined candidatesAfter decides kingAfter bitTaken decisionAfter bitAdopted strongAfter opinion
+unfolding step echoed joined candidatesAfter decides kingAfter bitTaken decisionAfter valueSaid bitAdopted strongAfter opinion
 next-already-heard v es up = ap (step v) (received-already-heard v es up)

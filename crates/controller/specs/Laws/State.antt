@@ -14,7 +14,7 @@ use Rattle.wire.specs.Numbers.{rising, stored, listed}
 use Rattle.wire.specs.Laws.Numbers.{listed-stored}
 use Rattle.wire.specs.declared.frame.Numbers.{Numbers}
 use Rattle.controller.specs.Lists.{In, mem, Rising}
-use Rattle.controller.specs.State.{View, view, storedState, startView, same, soundList, isEmpty, soundSaid, soundEmpty, soundRules, firstFits, alongside, recorded, soundBeside, sound, bitPart, stateFrom}
+use Rattle.controller.specs.State.{View, view, undecided, storedState, startView, same, soundList, isEmpty, soundSaid, soundEmpty, soundRules, firstFits, alongside, recorded, soundBeside, sound, bitPart, stateFrom}
 use Rattle.controller.specs.Laws.Lists.{in-mem, mem-in, rising-gives, rising-test}
 use Rattle.controller.specs.declared.state.State.{State}
 
@@ -46,8 +46,9 @@ pub record Sound (v : View) : Type 0 where
   pub heard : SoundList (v .rotor .heard)
   pub candidates : SoundList (v .rotor .candidates)
   pub echoes : SoundList (v .rotor .echoes)
-  pub said : bitFits (kindOf (v .round)) (v .bit .said) ≡ true
-  pub said-value : kindOf (v .round) ≡ 3 → v .bit .said ≡ v .bit .own
+  pub said : undecided v ≡ true → bitFits (kindOf (v .round)) (v .bit .said) ≡ true
+  pub said-value : undecided v ≡ true → kindOf (v .round) ≡ 3 → v .bit .said ≡ v .bit .own
+  pub quiet : undecided v ≡ false → v .bit .said ≡ 2
   pub no-candidates : v .round ≤ 2 → v .rotor .candidates ≡ []
   pub no-echoes : v .round ≤ 1 → v .rotor .echoes ≡ []
   pub bit : v .bit .own ≤ 1
@@ -83,6 +84,11 @@ empty-gives (x ∷ l) h = absurd (omega (arith, eqb-true (length (x ∷ l)) 0 h)
 when-is : (a b : Bool) → (cond a b true ≡ true) ↔ (a ≡ true → b ≡ true)
 when-is true b = (λ h e. h, λ f. f refl)
 when-is false b = (λ h e. absurd (true≢false (sym e)), λ f. refl)
+
+-- b is tested where a holds, else c
+choice-is : (a b c : Bool) → (cond a b c ≡ true) ↔ ((a ≡ true → b ≡ true) × (a ≡ false → c ≡ true))
+choice-is true b c = (λ h. (λ e. h, λ e. absurd (true≢false e)), λ f. f .0 refl)
+choice-is false b c = (λ h. (λ e. absurd (true≢false (sym e)), λ e. h), λ f. f .1 refl)
 
 -- a list that passes is short and rises from above 0, and its stored form is the one in hand
 pub record ListTests (n : Numbers) : Type 0 where
@@ -189,7 +195,8 @@ unfolding roundFits
 rules-give s h =
     let t = tests-give s h in
     let round = and-eq-true-iff (leb 1 (s .round)) (leb (s .round) lastRound) .0 (t .round) in
-    let said = and-eq-true-iff (bitFits (kindOf (s .round)) (s .said)) _ .0 (t .said) in
+    let said = choice-is (undecided (view s)) _ _ .0 (t .said) in
+    let fits = and-eq-true-iff (bitFits (kindOf (s .round)) (s .said)) _ .0 in
     let empty = and-eq-true-iff (cond (leb (s .round) 2) (isEmpty (listed (s .candidates))) true) _ .0 (t .empty) in
     record {
       early = leb-true _ _ (round .0);
@@ -199,8 +206,9 @@ rules-give s h =
       heard = sound-list-gives (s .heard) (t .heard) .list;
       candidates = sound-list-gives (s .candidates) (t .candidates) .list;
       echoes = sound-list-gives (s .echoes) (t .echoes) .list;
-      said = said .0;
-      said-value = λ e. eqb-true _ _ (when-is _ _ .0 (said .1) (eq-eqb _ _ e));
+      said = λ u. fits (said .0 u) .0;
+      said-value = λ u e. eqb-true _ _ (when-is _ _ .0 (fits (said .0 u) .1) (eq-eqb _ _ e));
+      quiet = λ u. eqb-true _ _ (said .1 u);
       no-candidates = λ l. empty-gives _ (when-is _ _ .0 (empty .0) (le-leb _ _ l));
       no-echoes = λ l. empty-gives _ (when-is _ _ .0 (empty .1) (le-leb _ _ l));
       bit = leb-true _ _ (t .bit);
@@ -254,7 +262,11 @@ rules-test v p h =
       heard = sound-list-test (v .rotor .heard) (h .heard);
       candidates = sound-list-test (v .rotor .candidates) (h .candidates);
       echoes = sound-list-test (v .rotor .echoes) (h .echoes);
-      said = and-eq-true-iff _ _ .1 (h .said, when-is _ _ .1 (λ e. eq-eqb _ _ (h .said-value (eqb-true _ _ e))));
+      said =
+          choice-is (undecided v) _ _ .1 (
+            λ u. and-eq-true-iff _ _ .1 (h .said u, when-is _ _ .1 (λ e. eq-eqb _ _ (h .said-value u (eqb-true _ _ e)))),
+            λ u. eq-eqb _ _ (h .quiet u),
+          );
       empty =
           and-eq-true-iff _ _ .1 (
             when-is (leb (v .round) 2) (isEmpty (listed (stored (v .rotor .candidates)))) .1
@@ -289,8 +301,9 @@ start-sound number bit h b =
           };
       candidates = empty;
       echoes = empty;
-      said = refl;
-      said-value = λ e. absurd (omega arith);
+      said = λ u. refl;
+      said-value = λ u e. absurd (omega arith);
+      quiet = λ u. refl;
       no-candidates = λ l. refl;
       no-echoes = λ l. refl;
       bit = b;

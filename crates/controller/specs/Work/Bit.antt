@@ -1,10 +1,10 @@
 -- Words for bit.rt: the bit, from counts. They are no part of the rules: the laws tie them to the rules' words.
 --     proposedFrom z o h       the bit whose values, z and o of h, reach two thirds
---     adoptedFrom v z o h      the own bit, or the only bit whose proposals, z and o of h, reach a third
+--     adoptedFrom b z o h      the own bit b, or the only bit whose proposals, z and o of h, reach a third
 --     TurnsBit v r t           t has the bit, strong and said that making round 5 + 3r gives, where r was received
---     Turns f n h t            so it is with each state whose fields are f, where n has the counts of proposals among h
+--     Turns f n h t            so it is with each state whose fields are f and which has not decided, where n has the counts of proposals among h
 use Prim.Native.Nat.{ℕ}
-use mathlib.Core.Bool.{not, cond, _&&_}
+use mathlib.Core.Bool.{true, not, cond, _&&_}
 use mathlib.Core.List.{List}
 use mathlib.Core.Path.{_≡_}
 use lib.ListN.{length}
@@ -21,11 +21,8 @@ use Rattle.controller.specs.Fields.{stateOf}
 unfoldable pub proposedFrom : ℕ → ℕ → ℕ → ℕ
 proposedFrom zeros ones h = cond (twoThirds zeros h) 0 (cond (twoThirds ones h) 1 2)
 
-unfoldable pub adoptedFrom : View → ℕ → ℕ → ℕ → ℕ
-adoptedFrom v zeros ones h =
-    cond (undecided v && third zeros h && not (third ones h)) 0
-    (cond (undecided v && third ones h && not (third zeros h)) 1
-    (v .bit .own))
+unfoldable pub adoptedFrom : ℕ → ℕ → ℕ → ℕ → ℕ
+adoptedFrom bit zeros ones h = cond (third zeros h && not (third ones h)) 0 (cond (third ones h && not (third zeros h)) 1 bit)
 
 pub record TurnsBit (v : View) (r : Received) (t : Turn) : Type 0 where
   pub bit : t .bit ≡ bitAdopted v r
@@ -33,4 +30,6 @@ pub record TurnsBit (v : View) (r : Received) (t : Turn) : Type 0 where
   pub said : t .said ≡ opinion v r
 
 abbrev pub Turns : Fields → Counts → ℕ → Turn → Type 0
-Turns f n h t = (l c e : List ℕ) (r : Received) → CountsBits 4 r n → h ≡ length (r .heard) → TurnsBit (view (stateOf f l c e)) r t
+Turns f n h t =
+    (l c e : List ℕ) (r : Received) → undecided (view (stateOf f l c e)) ≡ true → CountsBits 4 r n → h ≡ length (r .heard)
+    → TurnsBit (view (stateOf f l c e)) r t

@@ -7,16 +7,16 @@ use Prim.Native.Nat.{ℕ, _<_, _≤_}
 use mathlib.Core.Bool.{Bool, true, cond}
 use mathlib.Core.List.{List, [], _∷_, _++_}
 use mathlib.Core.Path.{_≡_}
-use lib.Dec.{leb, ltb, eqb}
+use lib.Dec.{leb, eqb}
 use lib.ListN.{length, drop}
 use Rattle.wire.specs.Lent.{before, after}
 use Rattle.wire.specs.Limits.{maxFrame, lastRound}
 use Rattle.wire.specs.Refusal.{firstFailed}
 use Rattle.wire.specs.Tray.{wellFormed, roundOf, entries}
-use Rattle.controller.specs.State.{View, view, sound, soundRules}
+use Rattle.controller.specs.State.{View, view, undecided, sound, soundRules}
 use Rattle.controller.specs.Fields.{Lent, stateBefore, answerOf, stateOf}
 use Rattle.controller.specs.Rules.{next}
-use Rattle.controller.specs.Refusals.{listsFit}
+use Rattle.controller.specs.Refusals.{worksOn, listsFit}
 use Rattle.controller.specs.Calls.{sentBytes, Promise}
 use Rattle.controller.specs.declared.state.Fields.{Fields}
 use Rattle.controller.specs.declared.state.State.{State}
@@ -26,7 +26,7 @@ use Rattle.controller.specs.Work.Received.{Ready}
 abbrev pub earlyTests : State → List ℕ → ℕ → List (Bool × ℕ)
 earlyTests s b n =
     (sound s, 1)
-    ∷ (ltb (s .round) lastRound, 2)
+    ∷ (worksOn (view s), 2)
     ∷ (leb maxFrame n, 3)
     ∷ (wellFormed b, 4)
     ∷ (eqb (roundOf b) (s .round), 5)
@@ -38,6 +38,7 @@ earlyRefusal s b n = firstFailed (earlyTests s b n)
 pub record Checked (s : State) (b : List ℕ) (n : ℕ) : Type 0 where
   pub sound : sound s ≡ true
   pub early : s .round < lastRound
+  pub active : undecided (view s) ≡ true
   pub room : maxFrame ≤ n
   pub packed : wellFormed b ≡ true
   pub round : roundOf b ≡ s .round

@@ -16,7 +16,7 @@
 --     Openable f h e b t ..      what opening finds: a state that is ready for the tray b, and room
 --     OpensAll v b s n c m       the m open lists count each number as the lists that the state v receives do
 use Prim.Native.Nat.{ℕ, zero, suc, _+_, _*_, _<_, _≤_}
-use mathlib.Core.Bool.{cond}
+use mathlib.Core.Bool.{cond, _||_}
 use mathlib.Core.List.{List, []}
 use mathlib.Core.Path.{_≡_}
 use mathlib.Core.Logic.{_⊎_}
@@ -26,6 +26,7 @@ use Rattle.wire.specs.Lent.{before, after}
 use Rattle.wire.specs.Limits.{maxNumbers}
 use Rattle.wire.specs.Numbers.{listed}
 use Rattle.wire.specs.Frame.{kindOf, maxCount}
+use Rattle.wire.specs.Notes.{noFrame}
 use Rattle.wire.specs.Words.{wordsAt}
 use Rattle.controller.specs.Lists.{In, mem, Rising}
 use Rattle.controller.specs.Received.{readIn, listIn, lists}
@@ -127,7 +128,7 @@ OwnFirst f n = (getD n 0 0 ≡ sentCount f) × (sentCount f ≤ maxNumbers)
 
 abbrev pub listUnder : Fields → List ℕ → List ℕ → ℕ → ℕ → List ℕ
 listUnder f e b x k =
-    cond (eqb x (f .own)) (cond (ltb 0 (maxCount (kindOf (f .round)))) (listed (record { len = f .echoes; at = e })) [])
+    cond (eqb x (f .own) || eqb k noFrame) (cond (ltb 0 (maxCount (kindOf (f .round)))) (listed (record { len = f .echoes; at = e })) [])
     (listIn (readIn (f .round) (noted b k)))
 
 pub record Openable (f : Fields) (h e b t s n w : List ℕ) : Type 0 where

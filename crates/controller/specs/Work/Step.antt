@@ -1,14 +1,14 @@
 -- Words for step.rt: the state that a step makes. They are no part of the rules: the laws tie them to the rules' words.
 --     Due k s b f              the state s is ready for the tray b, and a frame of kind k is to be made
 --     Grows s b f l d c e      what the making of round 3 + 3r has made of the state s before (c): these lists, and the bit d
---     namedState n d r         the state n with the decision and the king that (c) gives in phase r, from the decision d before the step
+--     namedState n r           the state n with what (c) gives in phase r: the king, or the decision, with which nothing is said any more
 --     Makes s b r t            r says whether the lists of the state that the step makes of s fit; if so, t is that state, else t is s
 --     MakesEchoes, MakesFields, MakesParts, MakesGrown    the same of a state in parts
 use Prim.Native.Nat.{ℕ, _+_, _<_}
-use mathlib.Core.Bool.{true, false, not, cond, _&&_, Bool}
+use mathlib.Core.Bool.{true, false, cond, Bool}
 use mathlib.Core.List.{List}
 use mathlib.Core.Path.{_≡_}
-use lib.Dec.{leb, eqb}
+use lib.Dec.{leb}
 use lib.ListN.{getD}
 use Rattle.wire.specs.Lent.{before, after}
 use Rattle.wire.specs.Limits.{lastRound}
@@ -36,11 +36,11 @@ pub record Grows (s : State) (b f : List ℕ) (l : Lists) (bit : ℕ) (c e : Lis
   pub taken : bit ≡ bitTaken (view s) (receivedBy s b)
   pub lists : GrowsLists s b l c e
 
-unfoldable pub namedState : State → ℕ → ℕ → State
-namedState n d r =
-    let stops = eqb d 2 && leb (n .candidates .len) r in
-    stateFrom (n .own) (n .round) (record { own = n .bit; said = n .said; strong = n .strong; decision = cond stops (n .bit) (n .decision) })
-    (cond (eqb d 2 && not stops) (getD (listed (n .candidates)) r 0) 0) (n .heard) (n .candidates) (n .echoes) (n .since)
+unfoldable pub namedState : State → ℕ → State
+namedState n r =
+    let stops = leb (n .candidates .len) r in
+    stateFrom (n .own) (n .round) (record { own = n .bit; said = cond stops 2 (n .said); strong = n .strong; decision = cond stops (n .bit) (n .decision) })
+    (getD (listed (n .candidates)) r 0) (n .heard) (n .candidates) (n .echoes) (n .since)
 
 pub record Makes (s : State) (b : List ℕ) (r : Bool) (t : State) : Type 0 where
   pub fits : r ≡ listsFit (view s) (entries b)

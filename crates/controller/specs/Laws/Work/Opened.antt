@@ -17,7 +17,7 @@ use Rattle.wire.specs.Limits.{maxNumbers}
 use Rattle.wire.specs.Words.{wordsAt, Below}
 use Rattle.controller.specs.Lists.{In, mem, countIf, Rising}
 use Rattle.controller.specs.Fields.{stateOf}
-use Rattle.controller.specs.Received.{ReceivedLists, frameOf, receive, lists}
+use Rattle.controller.specs.Received.{ReceivedLists, frameOf, standIn, receive, lists}
 use Rattle.controller.specs.Rotation.{tally}
 use Rattle.controller.specs.Work.Received.{receivedBy, sentCount}
 use Rattle.controller.specs.Work.Opened.{total, endMark, maxLists, SpanOf, listFrom, openList, Lies, Opens, weighed, Adds, Openable, OpensAll}
@@ -255,7 +255,7 @@ module _ {f : Fields} {h e b t s n w : List ℕ} (o : Openable f h e b t s n w) 
 
 -- the candidates have no part in what is received
 pub lists-else : (f : Fields) (h c d e b : List ℕ) → lists (receivedBy (stateOf f h c e) b) ≡ lists (receivedBy (stateOf f h d e) b)
-unfolding receive frameOf
+unfolding receive frameOf standIn
 lists-else f h c d e b = refl
 
 -- the c lists from place j on are equal

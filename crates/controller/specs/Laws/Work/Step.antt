@@ -1,12 +1,13 @@
 -- Laws of the step as the code makes it: what it finds, and that the stored state it leaves is the one that the rules give.
 use Prim.Native.Nat.{ℕ, _+_, _/_, _≤_, _<_}
-use mathlib.Core.Bool.{true, false, _&&_, true≢false}
+use mathlib.Core.Bool.{Bool, true, false, cond, _&&_, true≢false}
 use mathlib.Core.List.{List, []}
-use mathlib.Core.Path.{_≡_, sym, ap, _∙_}
+use mathlib.Core.Logic.{inl, inr}
+use mathlib.Core.Path.{_≡_, refl, sym, ap, _∙_}
 use native.Mathlib.Omega.{arith}
-use borrow.Author.Tests.{le-leb}
-use lib.Dec.{leb}
-use lib.ListN.{length, getD}
+use borrow.Author.Tests.{leb-true, le-leb, ne-eqb}
+use lib.Dec.{leb, eqb}
+use lib.ListN.{length, getD, List·getD-eq-default}
 use Rattle.wire.specs.Frame.{kindOf}
 use Rattle.wire.specs.Laws.Numbers.{listed-stored}
 use Rattle.wire.specs.Limits.{maxNumbers}
@@ -17,19 +18,19 @@ use Rattle.wire.specs.Tray.{wellFormed, entries}
 use Rattle.wire.specs.declared.frame.Numbers.{Numbers}
 use Rattle.controller.specs.Work.Lists.{inPlaces}
 use Rattle.controller.specs.Lists.{In}
-use Rattle.controller.specs.State.{View, view, storedState, soundRules, undecided, bitPart, stateFrom}
-use Rattle.controller.specs.Received.{Received, senders, says, lists}
-use Rattle.controller.specs.Rotation.{roster, decides, kingAfter}
-use Rattle.controller.specs.Bit.{phase, decisionAfter, valueTwoThirds, proposal}
+use Rattle.controller.specs.State.{View, Rotor, view, storedState, soundRules, undecided, bitPart, stateFrom}
+use Rattle.controller.specs.Received.{Received, ReceivedLists, senders, says, lists}
+use Rattle.controller.specs.Rotation.{roster, candidatesAfter, decides, kingAfter}
+use Rattle.controller.specs.Bit.{phase, bitTaken, decisionAfter, valueSaid, valueTwoThirds, proposal}
 use Rattle.controller.specs.Rules.{makeRoster, makePropose, makeTurn, next}
 use Rattle.controller.specs.Work.Received.{receivedBy, Ready, CountsBits}
 use Rattle.controller.specs.Work.Tally.{candidatesOf, echoesOf}
 use Rattle.controller.specs.Work.Bit.{proposedFrom, TurnsBit}
 use Rattle.controller.specs.Work.Step.{Grows, namedState, Makes}
-use Rattle.controller.specs.Laws.Lists.{keep-length}
+use Rattle.controller.specs.Laws.Lists.{true-or-false, keep-length}
 use Rattle.controller.specs.Laws.State.{rules-give, rules-stored}
 use Rattle.controller.specs.Laws.Work.Ready.{ready-size, ready-short}
-use Rattle.controller.specs.Laws.Rules.{kind-init, heard-known, step-kind-roster, step-kind-value, step-kind-propose, step-kind-turn}
+use Rattle.controller.specs.Laws.Rules.{kind-init, bit-taken-bound, heard-known, step-kind-roster, step-kind-value, step-kind-propose, step-kind-turn}
 use Rattle.controller.specs.declared.state.State.{State}
 use Rattle.controller.specs.declared.received.Counts.{Counts}
 use Rattle.controller.specs.declared.tally.Lists.{Lists}
@@ -38,12 +39,13 @@ use Rattle.controller.specs.declared.bit.Turn.{Turn}
 -- ---- what a step finds
 
 -- a tray whose senders are all heard, with the notes on them
-pub ready-found : (s : State) (b f : List ℕ) → soundRules s ≡ true → wellFormed b ≡ true → ((x : ℕ) → In x (senders (entries b)) → In x (listed (s .heard)))
+pub ready-found : (s : State) (b f : List ℕ) → soundRules s ≡ true → undecided (view s) ≡ true → wellFormed b ≡ true → ((x : ℕ) → In x (senders (entries b)) → In x (listed (s .heard)))
     → ((j : ℕ) → j < length (listed (s .heard)) → foundBy (getD f j 0) ≡ found b (getD (listed (s .heard)) j 0)) → Ready s b f
-ready-found s b f h packed known notes =
+ready-found s b f h active packed known notes =
     let heard = rules-give s h .heard in
     record {
       sound = h;
+      active = active;
       packed = packed;
       numbered = λ i. omega (arith, heard .positive 0 (known 0 i));
       heard = heard-known (view s) (entries b) (heard .rises) known;
@@ -149,9 +151,28 @@ module _ {s : State} {b f : List ℕ} (r : Ready s b f) where
       (λ i. stateFrom (s .own) (s .round + 1) (record { own = bit i; said = said i; strong = strong i; decision = s .decision })
       (s .king) (heard i) (candidates i) (echoes i) (s .since))
 
+-- the king that one names who has not decided, if it does not decide now: behind the last candidate there is none
+king-named : {u : Bool} → u ≡ true → (r : ℕ) (c : Rotor) (l : ReceivedLists) → kingAfter u r c l ≡ getD (candidatesAfter c l) r 0
+unfolding kingAfter decides
+king-named active r c l = rw active (elim (true-or-false (leb (length (candidatesAfter c l)) r)) [
+  | inl t ↦ rw t (sym (List·getD-eq-default (candidatesAfter c l) 0 (leb-true _ _ t)))
+  | inr t ↦ rw t
+])
+
+-- what one who has not decided decides and says with a value
+value-ends : (v : View) (r : Received) → undecided v ≡ true → bitTaken v r ≤ 1
+    → (decisionAfter v r ≡ cond (leb (length (candidatesAfter (v .rotor) (lists r))) (phase v)) (bitTaken v r) (v .bit .decision))
+    × (valueSaid v r ≡ cond (leb (length (candidatesAfter (v .rotor) (lists r))) (phase v)) 2 (bitTaken v r))
+unfolding valueSaid decisionAfter decides
+value-ends v r active small = rw active (refl, pick (leb (length (candidatesAfter (v .rotor) (lists r))) (phase v)))
+  where
+    pick : (t : Bool) → cond (eqb (cond t (bitTaken v r) (v .bit .decision)) 2) (bitTaken v r) 2 ≡ cond t 2 (bitTaken v r)
+    pick true = rw (ne-eqb (bitTaken v r) 2 (λ q. omega arith))
+    pick false = rw active
+
 module _ {s : State} {b f : List ℕ} {l : Lists} {bit : ℕ} {c e : List ℕ} (g : Grows s b f l bit c e) where
-  pub value-made : (t : State) → l .fits ≡ true → t ≡ namedState (grownState s l bit c e) (s .decision) (s .round / 3) → Makes s b true t
-  unfolding namedState decisionAfter decides kingAfter
+  pub value-made : (t : State) → l .fits ≡ true → t ≡ namedState (grownState s l bit c e) (s .round / 3) → Makes s b true t
+  unfolding namedState
   value-made t fits named =
       let v = view s in
       let received = receivedBy s b in
@@ -164,12 +185,16 @@ module _ {s : State} {b f : List ℕ} {l : Lists} {bit : ℕ} {c e : List ℕ} (
       let candidates : _≡_ {A = Numbers} (record { len = l .candidates; at = c }) (stored (candidatesOf s b)) = grows .candidates fits in
       let len : l .candidates ≡ length (candidatesOf s b) = ap (λ (m : Numbers). m .len) candidates in
       let list : listed (record { len = l .candidates; at = c }) ≡ candidatesOf s b = ap listed candidates ∙ listed-stored (candidatesOf s b) in
-      let done = namedState (grownState s l bit c e) (s .decision) (s .round / 3) in
-      let king : done .king ≡ kingAfter (undecided v) (phase v) (v .rotor) (lists received) = rw (list, len) in
-      let decision : done .decision ≡ decisionAfter v received = rw (len, taken) in
+      let done = namedState (grownState s l bit c e) (s .round / 3) in
+      let named-king = king-named (g .ready .active) (phase v) (v .rotor) (lists received) in
+      let king : done .king ≡ kingAfter (undecided v) (phase v) (v .rotor) (lists received) = rw list (sym named-king) in
+      let small = bit-taken-bound v received (rules-give s (g .ready .sound) .bit) in
+      let ends = value-ends v received (g .ready .active) small in
+      let said : done .said ≡ valueSaid v received = rw (len, taken) (sym (ends .1)) in
+      let decision : done .decision ≡ decisionAfter v received = rw (len, taken) (sym (ends .0)) in
       record {
         fits = sym all ∙ rw next-is;
-        made = λ q. named ∙ (λ i. stateFrom (s .own) (s .round + 1) (record { own = taken i; said = taken i; strong = s .strong; decision = decision i })
+        made = λ q. named ∙ (λ i. stateFrom (s .own) (s .round + 1) (record { own = taken i; said = said i; strong = s .strong; decision = decision i })
             (king i) (heard i) (candidates i) (echoes i) (s .since)) ∙ ap (λ (u : View). storedState u (s .since)) (sym next-is);
         kept = λ q. absurd (true≢false q);
       }

@@ -1,6 +1,6 @@
 -- Laws of the received lists, by the places of those heard: what the tally finds of them in the state and in the tray.
 use Prim.Native.Nat.{ℕ, zero, suc, _+_, _-_, _≤_, _<_}
-use mathlib.Core.Bool.{Bool, true, false, cond}
+use mathlib.Core.Bool.{Bool, true, false, cond, _||_}
 use mathlib.Core.List.{List, [], _∷_, List·Memᴰ·head, List·Memᴰ·tail, List·Memᴰ·not-nil}
 use mathlib.Core.Option.{Option, some, none}
 use mathlib.Core.Path.{_≡_, refl, ap}
@@ -10,13 +10,14 @@ use lib.ListN.{length, getD, take, length-append, length-replicate}
 use Rattle.wire.specs.Frame.{Content, writable, kindOf, maxCount}
 use Rattle.wire.specs.Laws.Frame.{writable-gives, writable-count}
 use Rattle.wire.specs.Limits.{maxNumbers}
+use Rattle.wire.specs.Notes.{noFrame}
 use Rattle.wire.specs.Numbers.{stored, listed}
 use Rattle.wire.specs.Tray.{Entry}
 use Rattle.wire.specs.Words.{Below}
 use Rattle.controller.specs.Lists.{In}
-use Rattle.controller.specs.State.{View, view, soundRules}
+use Rattle.controller.specs.State.{View, view, undecided, soundRules}
 use Rattle.controller.specs.Fields.{stateOf}
-use Rattle.controller.specs.Received.{ReceivedLists, frameOf, readIn, receive, listIn, lists}
+use Rattle.controller.specs.Received.{ReceivedLists, frameOf, standIn, readIn, receive, listIn, lists}
 use Rattle.controller.specs.Work.Opened.{listUnder}
 use Rattle.controller.specs.Work.Received.{noted, contentUnder}
 use Rattle.controller.specs.Laws.Lists.{rising-gives}
@@ -36,10 +37,10 @@ list-sound (some c) allowed =
     let up = rising-gives (c .numbers) (writable-gives c (allowed c refl) .rise) in
     record { short = writable-count c (allowed c refl); rises = up .0; positive = up .1 }
 
-pub list-at-sound : (v : View) (es : List Entry) → Sound v → (j : ℕ) → SoundList (nthList (lists (receive v es)) j)
-list-at-sound v es h j =
+pub list-at-sound : (v : View) (es : List Entry) → Sound v → undecided v ≡ true → (j : ℕ) → SoundList (nthList (lists (receive v es)) j)
+list-at-sound v es h u j =
     let x = getD ((receive v es) .heard) j 0 in
-    list-sound ((receive v es) .from x) (received-allowed v es h x)
+    list-sound ((receive v es) .from x) (received-allowed v es h u x)
 
 -- a bound on the places is one on the numbers, and on those of the first places
 pub below-in : {k : ℕ} (l : List ℕ) → Below k l → (x : ℕ) → In x l → x < k
@@ -57,15 +58,16 @@ below-take (suc n) (y ∷ l) small (suc i) = below-take n l (λ j. small (suc j)
 
 -- the list received under a number
 pub under-list : (f : Fields) (h c e b : List ℕ) (x i : ℕ) → listUnder f e b x i ≡ listIn (contentUnder (stateOf f h c e) b x i)
-unfolding frameOf
-under-list f h c e b x i = pick (eqb x (f .own))
+unfolding frameOf standIn
+under-list f h c e b x i = pick (eqb x (f .own)) (eqb i noFrame)
   where
-    pick : (t : Bool)
-        → cond t (cond (ltb 0 (maxCount (kindOf (f .round)))) (listed (record { len = f .echoes; at = e })) [])
+    pick : (s t : Bool)
+        → cond (s || t) (cond (ltb 0 (maxCount (kindOf (f .round)))) (listed (record { len = f .echoes; at = e })) [])
         (listIn (readIn (f .round) (noted b i)))
-        ≡ listIn (cond t (some (frameOf (view (stateOf f h c e)))) (readIn (f .round) (noted b i)))
-    pick true = refl
-    pick false = refl
+        ≡ listIn (cond s (some (frameOf (view (stateOf f h c e)))) (cond t (some (standIn (view (stateOf f h c e)))) (readIn (f .round) (noted b i))))
+    pick true t = refl
+    pick false true = refl
+    pick false false = refl
 
 -- the echoes of a sound state have their 64 places
 pub echoes-sized : (s : State) → soundRules s ≡ true → (s .echoes .len ≤ maxNumbers) × (length (s .echoes .at) ≡ maxNumbers)
