@@ -7,6 +7,10 @@
  * and then, round by round, hands over the tray of frames sent in that round
  * and sends the next frame that comes back.
  *
+ * The call that brings the decision gives no frame: it is accepted, with length 0. The
+ * host then sends nothing, and hands over no more trays. Who sent nothing has no entry in
+ * the others' trays either: silence means something, and an empty entry is no silence.
+ *
  * Nothing is kept between calls: all state is in an image of 1,024 bytes that
  * the host keeps and lends to each call. So one program may run any number of
  * controllers, each with its own image, and calls on different images may run
@@ -45,13 +49,13 @@ extern "C" {
 /* The length of the longest tray. */
 #define CONTROLLER_TRAY_LEN 65535
 
-/* The last round that is sent. */
+/* The last round. A controller has decided by then, so that nothing is sent in it. */
 #define CONTROLLER_LAST_ROUND 195
 
 /* The answer for a call that was worked, then the refusals. */
 #define CONTROLLER_WORKED 0
 #define CONTROLLER_STATE_NOT_SOUND 1 /* or the image is not 1,024 bytes long */
-#define CONTROLLER_LAST_ROUND_SENT 2 /* the state's round is 195 */
+#define CONTROLLER_LAST_ROUND_SENT 2 /* the state's round is 195, or it has decided */
 #define CONTROLLER_SHORT_OUTPUT 3    /* the output buffer is under 264 bytes */
 #define CONTROLLER_BAD_LAYOUT 4      /* the tray is not well packed */
 #define CONTROLLER_OTHER_ROUND 5     /* the tray's round is not the state's */
@@ -87,8 +91,10 @@ uint8_t controller_start(uint32_t number, uint8_t bit,
 
 /*
  * Works one tray: the frames sent by the others in the state's round. Makes the
- * next round and writes the frame to send in it. A void frame in a well packed
- * tray is passed over.
+ * next round and writes the frame to send in it, or none if the controller decides.
+ * A void frame in a well packed tray is passed over. Whoever was heard before and has
+ * no entry is silent: it counts as having sent what this controller itself sent in
+ * that round, opinions apart.
  *
  * Answers 0, or the first refusal that applies of: 1 (the image is not 1,024
  * bytes long or its state is not sound), 2, 3, 4, 5, 6, 7, 8. An image from before
@@ -96,8 +102,10 @@ uint8_t controller_start(uint32_t number, uint8_t bit,
  *
  * On 0, all 1,024 bytes of the image are those of the new state, the frame
  * stands in front of out, *length is its length, and out keeps every byte past
- * it. On a refusal, image and out keep every byte and *length becomes 0; the
- * call may be repeated with another tray or buffer.
+ * it. Where the controller decides, *length is 0 and out keeps every byte: nothing is
+ * to be sent, and each further tray is refused under 2. On a refusal, image and out
+ * keep every byte and *length becomes 0; the call may be repeated with another tray or
+ * buffer, except after 2.
  */
 uint8_t controller_tray(uint8_t *image, size_t image_len,
                         const uint8_t *tray, size_t tray_len,
@@ -120,7 +128,10 @@ uint8_t controller_frame(const uint8_t *frame, size_t frame_len, uint32_t round)
  */
 uint8_t controller_decision(const uint8_t *image, size_t image_len);
 
-/* The last round sent. 0 for an image that controller_tray would refuse under 1. */
+/*
+ * The last round sent, or the round of the decision, in which nothing is sent. 0 for an
+ * image that controller_tray would refuse under 1.
+ */
 uint32_t controller_round(const uint8_t *image, size_t image_len);
 
 /* The king, 0 for none. 0 also where controller_tray would refuse under 1. */

@@ -1,6 +1,7 @@
 /*
  * Four controllers in one process: 5, 7 and 9 are correct; 3 is faulty. It joins late
- * at 9, and it equivocates, telling 5 one thing and 7 and 9 another. The program prints
+ * at 9, and it equivocates, telling 5 one thing and 7 and 9 another. It brings its number
+ * in so late, and at 9 alone, that 9 decides a phase after the others. The program prints
  * what each one sent in each round and how its state stands after, then in which
  * round each one first heard the others. It ends 0 if the three agree on a bit, 1
  * otherwise.
@@ -18,13 +19,17 @@
 /* How many are correct, the faulty one's number, and by when all have decided. */
 enum { CORRECT = 3, FAULTY = 3, ALL = CORRECT + 1, ROUNDS = 3 + 3 * ALL };
 
-/* The place of 9 among the correct ones, and the round before which it hears nothing
- * of the faulty one. */
-enum { LATE_AT = 2, JOINS = 4 };
+/* The places of 5, 7 and 9 among the correct ones, and the round before which 9 hears
+ * nothing of the faulty one. */
+enum { FIVE = 0, SEVEN = 1, NINE = 2, JOINS = 4 };
+
+/* The kinds of frames that the faulty one writes. */
+enum { INIT = 1, ROSTER = 2, TURN = 5 };
 
 /* A tray here has at most one entry from each other one, with one frame. */
 enum { TRAY_ROOM = 8 + CORRECT * (8 + CONTROLLER_FRAME_LEN) };
 
+/* A controller that has decided sends nothing: the length is 0. */
 struct frame {
     uint32_t sender;
     size_t length;
@@ -55,18 +60,33 @@ static void header(struct frame *frame, uint32_t round, uint8_t kind, uint8_t bi
 }
 
 /*
- * What the faulty one sends: init and an empty roster, then, as value, proposal and
- * opinion, 0 to the first correct one and 1 to the others.
+ * Whether the faulty one's turn for a receiver lists its own number. 5 has its init, so
+ * that 9 echoes its number, and goes on with this help. With the help for 5 in round 8 two
+ * of them list it in round 11; the faulty one's list makes three of four, but for 9 alone.
+ */
+static int is_listed(uint32_t round, size_t receiver)
+{
+    return receiver == NINE || (receiver == FIVE && round == 8);
+}
+
+/*
+ * What the faulty one sends: init to 5, an empty entry to 7, an empty roster; then, as
+ * value, proposal and opinion, 0 to 5 and 1 to the others.
  */
 static void equivocate(struct frame *frame, uint32_t round, size_t receiver)
 {
-    uint8_t side = receiver == 0 ? 0 : 1;
+    uint8_t side = receiver == FIVE ? 0 : 1;
+    uint8_t kind = round <= ROSTER ? (uint8_t)round : (uint8_t)(3 + round % 3);
 
     frame->sender = FAULTY;
-    if (round <= 2) {
-        header(frame, round, (uint8_t)round, 2);
-    } else {
-        header(frame, round, (uint8_t)(3 + round % 3), side);
+    header(frame, round, kind, kind <= ROSTER ? 2 : side);
+    if (kind == INIT && receiver == SEVEN) {
+        frame->length = 0;
+    }
+    if (kind == TURN && is_listed(round, receiver)) {
+        put(frame->bytes + 6, 1, 2);
+        put(frame->bytes + 8, FAULTY, 4);
+        frame->length = 12;
     }
 }
 
@@ -92,15 +112,18 @@ static size_t pack(uint8_t *tray, uint32_t round, const struct frame *const *fra
     return end;
 }
 
-static void print(const struct controller *c, uint32_t number)
+static void print(const struct controller *c)
 {
     const uint8_t *sent = c->sent.bytes;
 
-    printf("%lu sent round %lu kind %d bit %d count %d;"
-           " heard %lu candidates %lu echoes %lu king %lu decision %d\n",
-           (unsigned long)number,
-           (unsigned long)controller_round(c->image, sizeof c->image),
-           sent[4], sent[5], sent[6] * 256 + sent[7],
+    printf("%lu in round %lu sent ", (unsigned long)c->sent.sender,
+           (unsigned long)controller_round(c->image, sizeof c->image));
+    if (c->sent.length == 0) {
+        printf("nothing;");
+    } else {
+        printf("kind %d bit %d count %d;", sent[4], sent[5], sent[6] * 256 + sent[7]);
+    }
+    printf(" heard %lu candidates %lu echoes %lu king %lu decision %d\n",
            (unsigned long)controller_heard(c->image, sizeof c->image),
            (unsigned long)controller_candidates(c->image, sizeof c->image),
            (unsigned long)controller_echoes(c->image, sizeof c->image),
@@ -135,12 +158,13 @@ static uint8_t carry(struct controller *c, const struct frame *sent, uint32_t ro
     size_t count = 0;
     size_t i, length;
 
-    if (receiver != LATE_AT || round >= JOINS) {
+    if (receiver != NINE || round >= JOINS) {
         equivocate(&faulty, round, receiver);
         frames[count++] = &faulty;
     }
+    /* Who has decided sent nothing, and has no entry: an empty one would not be silence. */
     for (i = 0; i < CORRECT; i++) {
-        if (i != receiver) {
+        if (i != receiver && sent[i].length > 0) {
             frames[count++] = &sent[i];
         }
     }
@@ -159,13 +183,18 @@ static int step(struct controller *controllers, uint32_t round)
         sent[i] = controllers[i].sent;
     }
     for (i = 0; i < CORRECT; i++) {
-        uint8_t answer = carry(&controllers[i], sent, round, i);
+        uint8_t answer;
 
+        /* Its run is over: a tray would be refused under CONTROLLER_LAST_ROUND_SENT. */
+        if (sent[i].length == 0) {
+            continue;
+        }
+        answer = carry(&controllers[i], sent, round, i);
         if (answer != CONTROLLER_WORKED) {
             printf("%lu refused %d\n", (unsigned long)controllers[i].sent.sender, answer);
             return 1;
         }
-        print(&controllers[i], controllers[i].sent.sender);
+        print(&controllers[i]);
     }
     return 0;
 }
@@ -187,7 +216,7 @@ static int start(struct controller *controllers)
             printf("%lu refused %d\n", (unsigned long)numbers[i], answer);
             return 1;
         }
-        print(c, numbers[i]);
+        print(c);
     }
     return 0;
 }

@@ -2,8 +2,9 @@
  * filled with a mark before; how far the mark is gone afterwards is how deep the
  * call went. It prints a line for each call: its name and the bytes. For a tray
  * it is the most over the trays that ask for most work: in each of the rounds 1
- * to 5 a frame from 63 others, with lists of 64 different numbers in rosters and
- * turns.
+ * to 5 a frame from 63 others, with lists of 64 numbers in rosters and turns. These
+ * are all different but for the first, which all list: with a candidate the
+ * controller does not decide before the last tray.
  */
 #define _XOPEN_SOURCE 700
 #include <stdint.h>
@@ -45,7 +46,7 @@ static void pack(uint32_t round)
         put(at + 5, round <= 2 ? 2 : i % 2, 1);
         put(at + 6, count, 2);
         for (uint32_t k = 0; k < count; k++)
-            put(at + 8 + 4 * k, 1 + k * OTHERS + i, 4);
+            put(at + 8 + 4 * k, k == 0 ? 1 : 1 + k * OTHERS + i, 4);
         at += 8 + 4 * count;
     }
     tray_len = at;

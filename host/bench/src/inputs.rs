@@ -10,9 +10,11 @@ pub const SIZES: [usize; 3] = [4, 16, 64];
 /// A name and how to make the input for a network of n.
 pub type Make = (&'static str, fn(usize) -> Input);
 
-pub const ALL: [Make; 13] = [
+pub const ALL: [Make; 15] = [
     ("value tray", value_tray),
+    ("value tray, two thirds silent", value_silent),
     ("turn tray, equal lists", equal_lists),
+    ("turn tray, two thirds silent", turn_silent),
     ("turn tray, a third of the lists random", random_third),
     ("turn tray, a third off by one number", off_third),
     (
@@ -145,6 +147,14 @@ fn value_tray(size: usize) -> Input {
     }
 }
 
+/// The same, but two thirds of the others have no entry.
+fn value_silent(size: usize) -> Input {
+    Input {
+        image: state(size, 3).image(),
+        trays: vec![from_others(3, value_frames(size).into_iter().step_by(3))],
+    }
+}
+
 /// The entries of all others, again and again up to 256.
 fn repeated_entries(size: usize) -> Input {
     let frames = repeated(value_frames(size).into_iter(), MAX_ENTRIES);
@@ -171,6 +181,19 @@ fn equal_lists_apart(size: usize) -> Input {
     state.echoes[size - 1] += 1;
     let others = state.heard.iter().enumerate().skip(1);
     let frames = others.map(|(place, &n)| (n, frame(5, (place % 3) as u8, &numbers(size))));
+    Input {
+        image: state.image(),
+        trays: vec![from_others(5, frames)],
+    }
+}
+
+/// Equal lists, but two thirds of the others have no entry: the own list counts for them.
+fn turn_silent(size: usize) -> Input {
+    let mut state = state(size, 5);
+    state.candidates.clear();
+    state.echoes = numbers(size);
+    let others = numbers(size).into_iter().skip(1).step_by(3);
+    let frames = others.map(|n| (n, frame(5, NONE, &numbers(size))));
     Input {
         image: state.image(),
         trays: vec![from_others(5, frames)],

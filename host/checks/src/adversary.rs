@@ -3,10 +3,11 @@
 //!
 //! For each receiver it counts what that one will get from the correct ones and
 //! adds just as much as brings a bit or a number to a third or two thirds of those
-//! heard, or leaves it one short. It equivocates: receivers on two sides are told
-//! two things, by a faulty king too. Faulty ones may join late, at some receivers later
-//! than at others or never, push a number late, omit frames, send void ones, or send two
-//! at once.
+//! heard, or leaves it one short. It counts in what the receiver itself sent, once more
+//! for each that is silent. It equivocates: receivers on two sides are told two things, by
+//! a faulty king too. Faulty ones may join late, at some receivers later than at others or
+//! never, fall silent, push a number late, omit frames, send void or empty ones, or send
+//! two at once; or they bring numbers in such that correct ones stop at different rounds.
 
 use crate::fields::Fields;
 use crate::network::{Adversary, View};
@@ -14,6 +15,7 @@ use crate::packing::{
     frame, has_list, kind_of, third, two_thirds, Entry, INIT, NONE, PROPOSE, ROSTER, TURN,
 };
 use crate::random::Random;
+use crate::stagger::Stagger;
 use crate::states::{self, Sorted};
 use crate::voids::damaged;
 
@@ -53,6 +55,7 @@ impl Members {
 struct FaultRates {
     omit: usize,
     void: usize,
+    empty: usize,
     repeat: usize,
     /// How often a count is left one short.
     short: usize,
@@ -68,6 +71,7 @@ impl FaultRates {
         FaultRates {
             omit: chance(),
             void: chance(),
+            empty: chance(),
             repeat: chance(),
             short: chance(),
         }
@@ -107,6 +111,8 @@ struct Faulty {
     number: u32,
     /// The round from which it sends at all, for each correct one.
     joins: Vec<u32>,
+    /// The round from which it is silent, for each correct one.
+    leaves: Vec<u32>,
     /// How many correct ones get its init.
     inits: usize,
 }
@@ -126,8 +132,24 @@ impl Faulty {
         Faulty {
             number,
             joins: vec![1; members.correct.len()],
+            leaves: vec![NEVER; members.correct.len()],
             inits: members.correct.len(),
         }
+    }
+
+    /// The same, but it falls silent: to all at once, or to each in a round of its own, or
+    /// never.
+    fn falling_silent(mut self, random: &mut Random, members: &Members) -> Faulty {
+        let together = some_round(random, members);
+        let each = random.percent(50);
+        for leaves in &mut self.leaves {
+            *leaves = match random.below(3) {
+                _ if !each => together,
+                0 => NEVER,
+                _ => some_round(random, members),
+            };
+        }
+        self
     }
 
     /// One whose init goes to just so many that with the others' help its number
@@ -182,6 +204,48 @@ pub struct Rushing {
     pushed: Vec<(u32, u32)>,
     rates: FaultRates,
     side: Side,
+    stagger: Option<Stagger>,
+}
+
+/// What counts at a receiver in a round.
+#[derive(Clone, Copy)]
+struct Getting {
+    receiver: usize,
+    /// How many faulty ones send to it.
+    present: usize,
+    /// How many are heard then.
+    heard: usize,
+    /// How often what it sent itself counts: for itself, and for each that is silent.
+    own_times: usize,
+}
+
+impl Getting {
+    fn of(view: &View, receiver: usize, present: &[u32]) -> Getting {
+        let own = view.correct[receiver].number;
+        let sending = view.correct.iter().filter(|p| !p.is_quiet());
+        let numbers = sending.map(|p| p.number);
+        let others: Vec<u32> = numbers.filter(|&number| number != own).collect();
+        let all = [&view.states[receiver].heard, present, &others];
+        let all: Sorted = all.into_iter().flatten().copied().collect();
+        let heard = all.0.len();
+        Getting {
+            receiver,
+            present: present.len(),
+            heard,
+            own_times: heard - others.len() - present.len(),
+        }
+    }
+
+    /// How many count as saying something, without the faulty ones that send; `says` is
+    /// asked of each correct one.
+    fn count(&self, view: &View, says: impl Fn(usize) -> bool) -> usize {
+        let saying = (0..view.correct.len()).filter(|&i| says(i));
+        let times = |i| match i == self.receiver {
+            true => self.own_times,
+            false => 1,
+        };
+        saying.map(times).sum()
+    }
 }
 
 impl Rushing {
@@ -200,13 +264,45 @@ impl Rushing {
     fn joining(seed: u64, members: &Members, ways: &[Joining]) -> Rushing {
         let mut random = Random::new(seed);
         let way = random.pick(ways);
-        let planned = |&number: &u32| Faulty::joining(&mut random, number, members, way);
+        let silent = random.percent(30);
+        let planned = |&number: &u32| {
+            let faulty = Faulty::joining(&mut random, number, members, way);
+            match silent {
+                true => faulty.falling_silent(&mut random, members),
+                false => faulty,
+            }
+        };
         let faulty = members.faulty.iter().map(planned).collect();
         Rushing {
             faulty,
             pushed: pushed(&mut random, members),
             rates: FaultRates::of(&mut random),
-            side: random.pick(&[Side::Any, Side::Halves, Side::Divide, Side::Divide]),
+            side: some_side(&mut random),
+            stagger: None,
+            random,
+        }
+    }
+
+    /// Faulty ones that make correct ones stop at different rounds.
+    pub fn staggering(seed: u64, members: &Members) -> Rushing {
+        if members.faulty.is_empty() {
+            return Rushing::new(seed, members);
+        }
+        let mut random = Random::new(seed);
+        let stagger = Stagger::of(&mut random, members.correct.len(), &members.faulty);
+        let planned = |&number: &u32| Faulty {
+            inits: stagger.inits(number).unwrap_or(members.correct.len()),
+            ..Faulty::from_start(number, members)
+        };
+        Rushing {
+            faulty: members.faulty.iter().map(planned).collect(),
+            pushed: Vec::new(),
+            rates: match random.percent(70) {
+                true => FaultRates::default(),
+                false => FaultRates::of(&mut random),
+            },
+            side: some_side(&mut random),
+            stagger: Some(stagger),
             random,
         }
     }
@@ -216,7 +312,8 @@ impl Rushing {
         let (random, omit) = (&mut self.random, self.rates.omit);
         let mut sends = |one: &&Faulty| {
             let reaches = kind_of(round) != INIT || receiver < one.inits;
-            one.joins[receiver] <= round && reaches && !random.percent(omit)
+            let while_there = one.joins[receiver]..one.leaves[receiver];
+            while_there.contains(&round) && reaches && !random.percent(omit)
         };
         let present = self.faulty.iter().filter(&mut sends);
         present.map(|one| one.number).collect()
@@ -239,13 +336,16 @@ impl Rushing {
 
     /// The bits for one receiver: the pushed bit comes to the count aimed at, and
     /// the faulty ones that are left say the other one or none.
-    fn bits(&mut self, view: &View, receiver: usize, present: usize, heard: usize) -> Vec<u8> {
-        let pushed = self.side(view, receiver);
+    fn bits(&mut self, view: &View, getting: Getting) -> Vec<u8> {
+        let pushed = self.side(view, getting.receiver);
+        let present = getting.present;
         if matches!(self.side, Side::Divide) {
             return vec![pushed; present];
         }
-        let from_correct = view.correct.iter().filter(|p| p.sent[5] == pushed).count();
-        let count = self.aim(heard).saturating_sub(from_correct).min(present);
+        let says = |i: usize| view.correct[i].sent.get(5) == Some(&pushed);
+        let from_correct = getting.count(view, says);
+        let aim = self.aim(getting.heard);
+        let count = aim.saturating_sub(from_correct).min(present);
         let rest = self.random.pick(&[NONE, 1 - pushed]);
         let mut bits = vec![pushed; count];
         bits.resize(present, rest);
@@ -268,24 +368,32 @@ impl Rushing {
         present.iter().map(&mut opinion).collect()
     }
 
-    /// The lists for one receiver: each number pushed comes to the count aimed at.
-    fn lists(
-        &mut self,
-        view: &View,
-        state: &Fields,
-        present: usize,
-        heard: usize,
-    ) -> Vec<Vec<u32>> {
+    /// The numbers to bring into the lists for a receiver, each with the count to which
+    /// it is to come.
+    fn aims(&mut self, view: &View, getting: Getting) -> Vec<(u32, usize)> {
+        if let Some(stagger) = &self.stagger {
+            let phase = (view.round as usize - 2) / 3;
+            return stagger.aims(phase, getting.receiver, getting.heard);
+        }
+        let now = self.pushed.iter().filter(|(_, from)| *from <= view.round);
+        let pushed = now.map(|&(number, _)| number);
+        let correct = view.correct.iter().map(|p| p.number);
+        let all: Vec<u32> = pushed.chain(correct).collect();
+        let aim = |number| (number, self.aim(getting.heard));
+        all.into_iter().map(aim).collect()
+    }
+
+    /// The lists for one receiver: each number comes to the count aimed at.
+    fn lists(&mut self, view: &View, getting: Getting) -> Vec<Vec<u32>> {
+        let present = getting.present;
+        let candidates = &view.states[getting.receiver].candidates;
         let mut lists = vec![Vec::new(); present];
-        let correct = view.correct.iter().map(|p| (p.number, 1));
-        let all: Vec<(u32, u32)> = self.pushed.iter().copied().chain(correct).collect();
-        for (number, from) in all {
-            if from > view.round || state.candidates.binary_search(&number).is_ok() {
+        for (number, aim) in self.aims(view, getting) {
+            if candidates.binary_search(&number).is_ok() {
                 continue;
             }
-            let has = |list: &&Vec<u32>| list.binary_search(&number).is_ok();
-            let from_correct = view.lists.iter().filter(has).count();
-            let count = self.aim(heard).saturating_sub(from_correct);
+            let has = |i: usize| view.lists[i].binary_search(&number).is_ok();
+            let count = aim.saturating_sub(getting.count(view, has));
             let first = self.random.below(present.max(1));
             for at in (first..present).chain(0..first).take(count) {
                 lists[at].push(number);
@@ -306,12 +414,18 @@ impl Rushing {
             });
         }
         for entry in &mut entries {
-            if self.random.percent(self.rates.void) {
+            if self.random.percent(self.rates.empty) {
+                entry.bytes.clear();
+            } else if self.random.percent(self.rates.void) {
                 entry.bytes = damaged(&mut self.random, &entry.bytes, round);
             }
         }
         entries
     }
+}
+
+fn some_side(random: &mut Random) -> Side {
+    random.pick(&[Side::Any, Side::Halves, Side::Divide, Side::Divide])
 }
 
 /// No numbers, or the faulty ones and some that nobody has; from the start, or
@@ -377,22 +491,17 @@ fn fitting(mut list: Vec<u32>) -> Vec<u32> {
 
 impl Adversary for Rushing {
     fn entries(&mut self, view: &View, receiver: usize) -> Vec<Entry> {
-        let (round, state) = (view.round, &view.states[receiver]);
+        let round = view.round;
         let present = self.present(round, receiver);
-        let all = [&state.heard, &present].into_iter().flatten().copied();
-        let heard = all
-            .chain(view.correct.iter().map(|p| p.number))
-            .collect::<Sorted>()
-            .0
-            .len();
+        let getting = Getting::of(view, receiver, &present);
         let kind = kind_of(round);
         let bits = match kind {
             INIT | ROSTER => vec![NONE; present.len()],
             TURN => self.opinions(view, receiver, &present),
-            _ => self.bits(view, receiver, present.len(), heard),
+            _ => self.bits(view, getting),
         };
         let lists = match has_list(kind) {
-            true => self.lists(view, state, present.len(), heard),
+            true => self.lists(view, getting),
             false => vec![Vec::new(); present.len()],
         };
         let mut entries = Vec::new();

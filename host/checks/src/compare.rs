@@ -4,6 +4,7 @@ use crate::calls::{Calls, Engine, Reference};
 use crate::copies::{self, copies};
 use crate::edges::{self, edges};
 use crate::fields::{Fields, IMAGE_LEN};
+use crate::quiet::{self, ends, silences};
 use crate::random::Random;
 use crate::records::{self, steps};
 use crate::{frames, states, trays};
@@ -11,12 +12,16 @@ use crate::{frames, states, trays};
 /// How many trays a case hands to one state, one after the other.
 const WALK: usize = 4;
 
+/// The answer for a state that no tray moves on.
+const ENDED: u8 = 2;
+
 /// How many answers there are: 0, for accepted, and the refusals up to 13.
 pub const ANSWERS: usize = 14;
 
-/// How often each answer was given, how often a record of first rounds was broken in each
-/// way, and how often accepted trays came to each edge of the rules, had each kind of
-/// copies and did each thing to the record.
+/// How often each answer was given; how often a record of first rounds or the bit said was
+/// broken in each way; for what a tray was refused under 2; and how often accepted trays
+/// came to each edge of the rules, had each kind of copies and of silence and did each
+/// thing to the record.
 #[derive(Clone, Default)]
 pub struct Histogram {
     pub start: [u64; ANSWERS],
@@ -26,6 +31,9 @@ pub struct Histogram {
     pub copies: [u64; copies::NAMES.len()],
     pub faults: [u64; records::FAULTS.len()],
     pub steps: [u64; records::STEPS.len()],
+    pub said: [u64; quiet::FAULTS.len()],
+    pub ends: [u64; quiet::ENDS.len()],
+    pub silences: [u64; quiet::SILENCES.len()],
 }
 
 impl Histogram {
@@ -42,6 +50,9 @@ impl Histogram {
         add_all(&mut self.copies, &other.copies);
         add_all(&mut self.faults, &other.faults);
         add_all(&mut self.steps, &other.steps);
+        add_all(&mut self.said, &other.said);
+        add_all(&mut self.ends, &other.ends);
+        add_all(&mut self.silences, &other.silences);
     }
 }
 
@@ -79,10 +90,13 @@ pub fn case(seed: u64, counts: &mut Histogram) -> Result<(), String> {
     match random.below(100) {
         0..=6 => states::damage(&mut random, &mut lent.image),
         7..=11 => break_record(&mut random, &mut lent.image, counts)?,
+        12..=18 => break_said(&mut random, &mut lent.image, counts)?,
         _ => (),
     }
     for _ in 0..WALK {
-        tray(&mut random, &pool, &mut lent, counts)?;
+        if tray(&mut random, &pool, &mut lent, counts)? == ENDED {
+            break;
+        }
     }
     Ok(())
 }
@@ -106,6 +120,15 @@ fn break_record(
     };
     counts.faults[fault] += 1;
     expect_sound(false, image, records::FAULTS[fault])
+}
+
+/// An image with a bit said that it may not have is not sound.
+fn break_said(random: &mut Random, image: &mut [u8], counts: &mut Histogram) -> Result<(), String> {
+    let Some(fault) = quiet::damage(random, image) else {
+        return Ok(());
+    };
+    counts.said[fault] += 1;
+    expect_sound(false, image, quiet::FAULTS[fault])
 }
 
 /// A frame, held against a round.
@@ -150,12 +173,13 @@ fn start(
     Ok(())
 }
 
+/// A tray for the state in the image, or for another if that is not sound; the answer.
 fn tray(
     random: &mut Random,
     pool: &[u32],
     lent: &mut Lent,
     counts: &mut Histogram,
-) -> Result<(), String> {
+) -> Result<u8, String> {
     let sound = Reference::answers(&lent.image)[1] != 0;
     let state = match sound {
         true => Fields::of(&lent.image),
@@ -173,6 +197,10 @@ fn tray(
         format!("tray of {length} bytes for a state of round {round}: {difference}")
     })?;
     counts.tray[usize::from(answer)] += 1;
+    if answer == ENDED {
+        let ended = ends(&state, lent.out.len()).map(u64::from);
+        add_all(&mut counts.ends, &ended);
+    }
     if answer == 0 {
         let came_to = edges(&state, &Fields::of(&lent.image)).map(u64::from);
         add_all(&mut counts.edges, &came_to);
@@ -180,8 +208,10 @@ fn tray(
         add_all(&mut counts.copies, &had);
         let did = steps(&state, &tray).map(u64::from);
         add_all(&mut counts.steps, &did);
+        let silent = silences(&state, &tray, &lent.image).map(u64::from);
+        add_all(&mut counts.silences, &silent);
     }
-    Ok(())
+    Ok(answer)
 }
 
 /// A new output buffer, often at the edge of what a frame needs, and any length.

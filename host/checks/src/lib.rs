@@ -3,6 +3,7 @@
 //! `tests/differential.rs` compares the engine with the reference call by call;
 //! `tests/order.rs` hands over entries in another order;
 //! `tests/networks.rs` runs whole networks with faulty controllers among them;
+//! `tests/every.rs` follows everything that can happen in lines of four and five;
 //! `tests/programs.rs` compiles and runs the C programs and looks into the archive;
 //! `tests/format.rs` holds the bytes of docs/FORMAT.md to be true;
 //! `tests/image.rs` holds the calls, the table and the soundness of docs/IMAGE.md;
@@ -20,7 +21,9 @@
 //! - [`compare`]: one call on both, and the first difference;
 //! - [`edges`]: what an accepted tray did; [`copies`], what it had of copies;
 //! - [`records`]: damage to the record of first rounds, and what trays did to it;
-//! - [`network`], [`adversary`]: a whole network, and what its faulty ones send.
+//! - [`quiet`]: damage to the bit said, decided states, and silence in trays;
+//! - [`network`], [`adversary`]: a whole network, and what its faulty ones send;
+//!   [`stagger`], how they make correct ones stop at different rounds.
 
 #![forbid(unsafe_code)]
 
@@ -36,8 +39,10 @@ pub mod hex;
 pub mod network;
 pub mod packing;
 pub mod page;
+pub mod quiet;
 pub mod random;
 pub mod records;
+pub mod stagger;
 pub mod states;
 pub mod trays;
 pub mod voids;

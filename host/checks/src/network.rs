@@ -2,17 +2,20 @@
 //! Correct is what document 01 calls proper.
 //!
 //! Each round, the adversary sees every correct frame and state before it sends.
-//! The trays that are handed over keep the guarantee of document 01's run, and the
-//! checks are that run's claims: agreement, a decision that is some correct one's
-//! input, the deadline, a decision that stays, and no refusal but under 3. After each
-//! round each state's record of first rounds is held against the trays handed over.
+//! The trays that are handed over keep the guarantee of document 01's run, with document
+//! 02's word on those that have gone quiet: a correct one sends nothing from its decision
+//! on, has no entry in any tray and works none. The checks are that run's claims:
+//! agreement, a decision that is some correct one's input, the deadline, a decision that
+//! stays, and no refusal but under 3; and, of a quiet one, that it writes nothing and
+//! refuses every tray under 2. After each round each state's record of first rounds is
+//! held against the trays handed over.
 
 use std::collections::BTreeMap;
 use std::marker::PhantomData;
 
 use crate::calls::Calls;
 use crate::fields::{Fields, IMAGE_LEN};
-use crate::packing::{numbers_in, pack, unpack, Entry};
+use crate::packing::{numbers_in, pack, unpack, Entry, NONE};
 use crate::random::Random;
 use crate::trays;
 
@@ -24,6 +27,7 @@ pub struct Correct {
     pub number: u32,
     pub input: u8,
     pub image: Vec<u8>,
+    /// Empty if it has decided: it sends nothing then.
     pub sent: Vec<u8>,
     /// For each number, the round of the first worked tray with an entry under it; 0 for
     /// the own one. It is kept from the trays alone.
@@ -33,6 +37,11 @@ pub struct Correct {
 impl Correct {
     pub fn fields(&self) -> Fields {
         Fields::of(&self.image)
+    }
+
+    /// Whether it has decided, so that it sends no more.
+    pub fn is_quiet(&self) -> bool {
+        self.sent.is_empty()
     }
 
     /// Notes who has an entry in a tray that was worked.
@@ -59,7 +68,7 @@ impl Correct {
 pub struct View {
     pub round: u32,
     pub correct: Vec<Correct>,
-    /// The list in each correct one's frame.
+    /// The list in each correct one's frame; empty for a quiet one.
     pub lists: Vec<Vec<u32>>,
     pub states: Vec<Fields>,
 }
@@ -72,7 +81,7 @@ pub trait Adversary {
 /// What the adversary brought about in a run.
 #[derive(Clone, Copy, Default)]
 pub struct Seen {
-    /// Whether correct ones named different kings in a round.
+    /// Whether correct ones that were not quiet named different kings in a round.
     pub kings_differed: bool,
     /// The last round whose making brought a correct one a new candidate.
     pub last_join: u32,
@@ -83,6 +92,21 @@ pub struct Seen {
     pub heard_late: usize,
     /// How many numbers some correct ones had heard by the deadline, and others not.
     pub heard_by_some: usize,
+    /// The rounds in which the first and the last correct one went quiet.
+    pub stops: Option<(u32, u32)>,
+}
+
+impl Seen {
+    /// Whether correct ones went quiet in different rounds.
+    pub fn stopped_apart(&self) -> bool {
+        self.stops.is_some_and(|(first, last)| first < last)
+    }
+
+    /// Notes that one went quiet; rounds come in order.
+    fn stop(&mut self, round: u32) {
+        let (first, _) = self.stops.unwrap_or((round, round));
+        self.stops = Some((first, round));
+    }
 }
 
 pub struct Network<C> {
@@ -128,9 +152,9 @@ impl<C: Calls> Network<C> {
         3 + 3 * self.size as u32
     }
 
-    /// Runs to the deadline and on past it.
+    /// Runs until all are quiet, at most to the deadline, and on past it.
     pub fn run(&mut self, adversary: &mut impl Adversary) -> Result<(), String> {
-        while self.round < self.deadline() {
+        while self.round < self.deadline() && !self.correct.iter().all(Correct::is_quiet) {
             self.step(adversary)?;
         }
         self.check_end()?;
@@ -138,15 +162,16 @@ impl<C: Calls> Network<C> {
         self.go_on()
     }
 
-    /// Carries the frames of one round to every correct one.
+    /// Carries the frames of one round to every correct one that is not quiet.
     pub fn step(&mut self, adversary: &mut impl Adversary) -> Result<(), String> {
-        let view = View {
-            round: self.round,
-            correct: self.correct.clone(),
-            lists: self.correct.iter().map(|p| numbers_in(&p.sent)).collect(),
-            states: self.correct.iter().map(Correct::fields).collect(),
-        };
+        let view = self.view();
         for receiver in 0..self.correct.len() {
+            if self.correct[receiver].is_quiet() {
+                if self.random.percent(30) {
+                    self.refuse_quiet(receiver, &view)?;
+                }
+                continue;
+            }
             let tray = self.guaranteed(&view, adversary, receiver);
             if self.random.percent(10) {
                 self.refuse(receiver, &tray)?;
@@ -158,11 +183,22 @@ impl<C: Calls> Network<C> {
         Ok(())
     }
 
+    fn view(&self) -> View {
+        View {
+            round: self.round,
+            correct: self.correct.clone(),
+            lists: self.correct.iter().map(|p| numbers_in(&p.sent)).collect(),
+            states: self.correct.iter().map(Correct::fields).collect(),
+        }
+    }
+
     /// Notes what this round's step brought about.
     fn record(&mut self, before: &[Fields]) {
         let now: Vec<Fields> = self.correct.iter().map(Correct::fields).collect();
         let mut steps = before.iter().zip(&now);
-        self.seen.kings_differed |= now.iter().any(|s| s.king != now[0].king);
+        let mut kings = now.iter().filter(|s| s.undecided()).map(|s| s.king);
+        let first = kings.next();
+        self.seen.kings_differed |= kings.any(|king| Some(king) != first);
         if steps.any(|(b, n)| n.candidates.len() > b.candidates.len()) {
             self.seen.last_join = self.round;
         }
@@ -187,7 +223,7 @@ impl<C: Calls> Network<C> {
         Ok(())
     }
 
-    /// A tray that keeps the guarantee: every other correct one's frame as it was
+    /// A tray that keeps the guarantee: every frame of another correct one as it was
     /// sent, sometimes twice, with what the adversary sends, in any order.
     fn guaranteed(
         &mut self,
@@ -196,12 +232,15 @@ impl<C: Calls> Network<C> {
         receiver: usize,
     ) -> Vec<u8> {
         let mut entries = adversary.entries(view, receiver);
-        let others = view
-            .correct
-            .iter()
-            .enumerate()
-            .filter(|&(i, _)| i != receiver);
-        for (_, other) in others {
+        self.add_correct(view, receiver, &mut entries);
+        pack(view.round, &entries)
+    }
+
+    /// Puts the frames of the other correct ones in; a quiet one has none.
+    fn add_correct(&mut self, view: &View, receiver: usize, entries: &mut Vec<Entry>) {
+        let own = view.correct[receiver].number;
+        let sends = |other: &&Correct| other.number != own && !other.is_quiet();
+        for other in view.correct.iter().filter(sends) {
             let copies = if self.random.percent(3) { 2 } else { 1 };
             for _ in 0..copies {
                 entries.push(Entry {
@@ -211,11 +250,10 @@ impl<C: Calls> Network<C> {
             }
         }
         match self.random.below(3) {
-            0 => self.random.shuffle(&mut entries),
+            0 => self.random.shuffle(entries),
             1 => entries.sort_by_key(|entry| entry.sender),
             _ => (),
         }
-        pack(view.round, &entries)
     }
 
     /// Refused calls in between: each leaves the state and the output as they are.
@@ -230,41 +268,92 @@ impl<C: Calls> Network<C> {
             (tray, self.random.below(MAX_FRAME)),
         ];
         for (bytes, room) in calls {
-            let mut image = self.correct[receiver].image.clone();
-            let before = self.random.bytes(room);
-            let mut out = before.clone();
-            let mut length = 1;
-            let answer = C::tray(&mut image, bytes, &mut out, &mut length);
-            let kept = image == self.correct[receiver].image && out == before && length == 0;
-            if answer == 0 || !kept || (room < MAX_FRAME && answer != 3) {
+            let answer = self.refused(receiver, bytes, room)?;
+            if room < MAX_FRAME && answer != 3 {
                 let number = self.correct[receiver].number;
-                return Err(format!(
-                    "{number}: a call to refuse gave {answer}, kept {kept}"
-                ));
+                return Err(format!("{number}: {room} bytes of output gave {answer}"));
             }
         }
         Ok(())
+    }
+
+    /// Hands a quiet one a tray with the others' frames, one for its state and one of
+    /// junk, with any room for output: each is refused under 2.
+    fn refuse_quiet(&mut self, receiver: usize, view: &View) -> Result<(), String> {
+        let mut entries = Vec::new();
+        self.add_correct(view, receiver, &mut entries);
+        let pool: Vec<u32> = (1..=100).collect();
+        let state = self.correct[receiver].fields();
+        let calls = [
+            pack(self.round, &entries),
+            trays::tray(&mut self.random, &pool, &state),
+            self.random.bytes(20),
+        ];
+        for tray in calls {
+            let room = self.random.pick(&[0, MAX_FRAME - 1, MAX_FRAME, 300]);
+            let answer = self.refused(receiver, &tray, room)?;
+            if answer != 2 {
+                let number = self.correct[receiver].number;
+                return Err(format!("{number} is quiet, and a tray gave {answer}"));
+            }
+        }
+        Ok(())
+    }
+
+    /// Hands over a tray that must be refused, with so much room for output; the answer.
+    /// State and output keep every byte.
+    fn refused(&mut self, receiver: usize, tray: &[u8], room: usize) -> Result<u8, String> {
+        let correct = &self.correct[receiver];
+        let mut image = correct.image.clone();
+        let before = self.random.bytes(room);
+        let mut out = before.clone();
+        let mut length = 1;
+        let answer = C::tray(&mut image, tray, &mut out, &mut length);
+        let kept = image == correct.image && out == before && length == 0;
+        match answer != 0 && kept {
+            true => Ok(answer),
+            false => Err(format!(
+                "{}: a call to refuse gave {answer}, kept {kept}",
+                correct.number
+            )),
+        }
     }
 
     /// Hands over a tray that keeps the guarantee: it must be accepted.
     fn accept(&mut self, receiver: usize, tray: &[u8]) -> Result<(), String> {
         let correct = &mut self.correct[receiver];
         let (number, round) = (correct.number, self.round);
-        let before = C::answers(&correct.image)[0];
-        let mut out = [0; MAX_FRAME];
-        let mut length = 0;
+        let mark = self.random.byte();
+        let mut out = [mark; MAX_FRAME];
+        let mut length = 1;
         let answer = C::tray(&mut correct.image, tray, &mut out, &mut length);
         if answer != 0 {
             return Err(format!("{number} refused round {round} under {answer}"));
         }
-        correct.sent = out[..length].to_vec();
         let [decision, now, ..] = C::answers(&correct.image);
         if now != round + 1 {
             return Err(format!("{number} made round {now} from {round}"));
         }
+        if out[length..].iter().any(|&byte| byte != mark) {
+            return Err(format!("{number} wrote past its {length} bytes"));
+        }
+        correct.sent = out[..length].to_vec();
         correct.worked(tray, round);
-        correct.check_record(&correct.fields().record())?;
-        check_kept(number, before, decision)
+        let state = correct.fields();
+        correct.check_record(&state.record())?;
+        match decision {
+            2 if C::frame(&correct.sent, now) != 0 => {
+                Err(format!("{number} sent no frame of round {now}"))
+            }
+            2 => Ok(()),
+            _ if length > 0 || (state.said, state.king) != (NONE, 0) => {
+                Err(format!("{number} decided in round {now}, and is not quiet"))
+            }
+            _ => {
+                self.seen.stop(now);
+                Ok(())
+            }
+        }
     }
 
     /// All have decided, alike, and for some correct one's input.
@@ -290,28 +379,9 @@ impl<C: Calls> Network<C> {
         }
     }
 
-    /// Past the deadline trays may be anything; decisions and first rounds stay.
+    /// Whatever comes now, nothing changes any more.
     fn go_on(&mut self) -> Result<(), String> {
-        let pool: Vec<u32> = (1..=100).collect();
-        for correct in &mut self.correct {
-            for _ in 0..9 {
-                let tray = trays::tray(&mut self.random, &pool, &correct.fields());
-                let [before, round, ..] = C::answers(&correct.image);
-                let mut out = [0; MAX_FRAME];
-                if C::tray(&mut correct.image, &tray, &mut out, &mut 0) == 0 {
-                    correct.worked(&tray, round);
-                }
-                correct.check_record(&C::record(&correct.image))?;
-                check_kept(correct.number, before, C::answers(&correct.image)[0])?;
-            }
-        }
-        Ok(())
-    }
-}
-
-fn check_kept(number: u32, before: u32, after: u32) -> Result<(), String> {
-    match before == 2 || before == after {
-        true => Ok(()),
-        false => Err(format!("{number} went from decision {before} to {after}")),
+        let view = self.view();
+        (0..self.correct.len()).try_for_each(|receiver| self.refuse_quiet(receiver, &view))
     }
 }

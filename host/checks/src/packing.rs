@@ -39,10 +39,10 @@ pub fn frame(round: u32, bit: u8, numbers: &[u32]) -> Vec<u8> {
     bytes
 }
 
-/// The numbers in a frame that a controller wrote.
-pub fn numbers_in(frame: &[u8]) -> Vec<u32> {
-    frame[8..]
-        .chunks_exact(4)
+/// The numbers in what a controller sent: a frame, or nothing at all.
+pub fn numbers_in(sent: &[u8]) -> Vec<u32> {
+    sent.chunks_exact(4)
+        .skip(2)
         .map(|b| u32::from_be_bytes([b[0], b[1], b[2], b[3]]))
         .collect()
 }

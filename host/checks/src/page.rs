@@ -8,14 +8,21 @@ use crate::{c, hex};
 /// A call of the page, what is set before one, or what comes out of one.
 #[derive(Clone, Debug)]
 pub enum Line {
-    Start { number: u32, bit: u8 },
+    Start {
+        number: u32,
+        bit: u8,
+    },
     Tray(Vec<u8>),
+    /// Empty where a call sends nothing.
     Frame(Vec<u8>),
     State(String),
     Refused(u8),
     ImageLen(usize),
     OutLen(usize),
-    ImageByte { at: usize, byte: u8 },
+    ImageByte {
+        at: usize,
+        byte: u8,
+    },
 }
 
 /// A page's text.
@@ -74,6 +81,7 @@ fn line(text: &str) -> Option<Line> {
             Line::Start { number, bit }
         }
         "tray" => Line::Tray(hex::bytes(rest)?),
+        "frame" if rest == "none" => Line::Frame(Vec::new()),
         "frame" => Line::Frame(hex::bytes(rest)?),
         "state" => Line::State(rest.to_string()),
         "refused" => Line::Refused(rest.parse().ok()?),

@@ -51,14 +51,22 @@ pub fn sound(random: &mut Random, pool: &[u32]) -> Fields {
     let king = some_king(random, pool, number, &heard, &candidates);
     let first_rounds = first_rounds(random, &heard, number, round);
     let size = random.pick(&[0, 1, 3, 10, 63, 64]);
+    let decision = if random.percent(8) {
+        random.bit()
+    } else {
+        NONE
+    };
     Fields {
         number,
         round,
         bit,
-        said: said(random, round, bit),
+        said: match decision {
+            NONE => said(random, round, bit),
+            _ => NONE,
+        },
         strong: random.bit(),
         king,
-        decision: random.pick(&[0, 1, 2, 2, 2, 2, 2, 2]),
+        decision,
         heard,
         candidates,
         echoes: if round == 1 {
@@ -81,6 +89,7 @@ fn some_round(random: &mut Random) -> u32 {
     }
 }
 
+/// What an undecided one may have said.
 fn said(random: &mut Random, round: u32, bit: u8) -> u8 {
     match kind_of(round) {
         INIT | ROSTER => NONE,

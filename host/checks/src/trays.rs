@@ -46,14 +46,15 @@ fn tray_round(random: &mut Random, round: u32) -> u32 {
     }
 }
 
-/// Who has an entry: mostly others heard, sometimes new ones, sometimes so many
-/// that 64 or 65 would be heard.
+/// Who has an entry: others heard, often not all of them, so that the rest are silent;
+/// sometimes new ones, sometimes so many that 64 or 65 would be heard.
 fn senders(random: &mut Random, pool: &[u32], state: &Fields) -> Vec<u32> {
     let known: Vec<u32> = without(&state.heard, &[state.number]);
     let count = match random.below(10) {
         0 => 0,
-        1 | 2 => random.below(known.len() + 1),
-        3 | 4 => known.len().saturating_sub(random.below(3)),
+        1 => known.len() / 3 + random.below(2),
+        2 | 3 => random.below(known.len() + 1),
+        4 | 5 => known.len().saturating_sub(random.below(3)),
         _ => known.len(),
     };
     let room = 64 - state.heard.len();
@@ -92,6 +93,11 @@ fn frames(random: &mut Random, pool: &[u32], state: &Fields, senders: &[u32]) ->
     senders.iter().zip(bits).zip(&lists).map(entry).collect()
 }
 
+/// How often what one sent oneself counts: for oneself, and for each who is silent.
+fn own_times(senders: usize, heard: usize) -> usize {
+    heard - senders
+}
+
 /// The bits said: both bits' counts come near a third or two thirds.
 fn bits(random: &mut Random, state: &Fields, senders: usize, heard: usize) -> Vec<u8> {
     let kind = kind_of(state.round);
@@ -101,7 +107,10 @@ fn bits(random: &mut Random, state: &Fields, senders: usize, heard: usize) -> Ve
     let first = random.bit();
     let mut bits = Vec::with_capacity(senders);
     for bit in [first, 1 - first] {
-        let own = usize::from(state.said == bit);
+        let own = match state.said == bit {
+            true => own_times(senders, heard),
+            false => 0,
+        };
         let count = near_threshold(random, heard).saturating_sub(own);
         bits.resize((bits.len() + count).min(senders), bit);
     }
@@ -149,7 +158,7 @@ fn lists(
         _ => {
             let mut plan = planned(random, pool, state, heard);
             random.shuffle(&mut plan);
-            spread(random, &plan, state, senders)
+            spread(random, &plan, state, senders, heard)
         }
     }
 }
@@ -179,16 +188,21 @@ fn planned(random: &mut Random, pool: &[u32], state: &Fields, heard: usize) -> V
     plan
 }
 
-/// Puts each number into as many lists as planned, the own list counted in.
+/// Puts each number into as many lists as planned, the own list counted in, as often as
+/// it counts.
 fn spread(
     random: &mut Random,
     plan: &[(u32, usize)],
     state: &Fields,
     senders: usize,
+    heard: usize,
 ) -> Vec<Vec<u32>> {
     let mut lists = vec![Vec::with_capacity(64); senders];
     for &(number, count) in plan {
-        let own = usize::from(state.echoes.binary_search(&number).is_ok());
+        let own = match state.echoes.binary_search(&number) {
+            Ok(_) => own_times(senders, heard),
+            Err(_) => 0,
+        };
         let mut missing = count.saturating_sub(own);
         let first = random.below(senders.max(1));
         for at in (first..senders).chain(0..first) {

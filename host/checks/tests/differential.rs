@@ -12,7 +12,7 @@ use checks::copies;
 #[cfg(not(feature = "fault"))]
 use checks::edges::NAMES;
 #[cfg(not(feature = "fault"))]
-use checks::records;
+use checks::{quiet, records};
 use std::thread;
 
 const THREADS: u64 = 2;
@@ -68,6 +68,18 @@ fn the_engine_and_the_reference_agree() {
         assert!(count >= 1000, "few images: {name}");
     }
     for (name, count) in records::STEPS.iter().zip(counts.steps) {
+        println!("{name}: {count}");
+        assert!(count >= 1000, "few trays: {name}");
+    }
+    for (name, count) in quiet::FAULTS.iter().zip(counts.said) {
+        println!("{name}: {count}");
+        assert!(count >= 500, "few images: {name}");
+    }
+    for (name, count) in quiet::ENDS.iter().zip(counts.ends) {
+        println!("refused under 2, {name}: {count}");
+        assert!(count >= 500, "few states: {name}");
+    }
+    for (name, count) in quiet::SILENCES.iter().zip(counts.silences) {
         println!("{name}: {count}");
         assert!(count >= 1000, "few trays: {name}");
     }

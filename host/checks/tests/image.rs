@@ -5,7 +5,7 @@ use std::collections::BTreeSet;
 use std::fs;
 
 use checks::calls::{Calls, Engine, Reference};
-use checks::fields::{Fields, FIRST_ROUNDS, IMAGE_LEN, RESERVED};
+use checks::fields::{Fields, ECHOES, FIRST_ROUNDS, IMAGE_LEN, RESERVED};
 use checks::{c, page};
 
 /// Text with each run of spaces and line ends as one space.
@@ -101,6 +101,60 @@ fn first_rounds_are_sound_as_the_page_says() {
         reserved[at] = 1;
         assert!(!sound(&reserved), "1 at {at}");
     }
+}
+
+/// The bits said that the page allows in a row of its table.
+fn allowed(cell: &str, own: u8) -> Vec<u8> {
+    match cell {
+        "the own bit" => vec![own],
+        _ => numbers_of(cell),
+    }
+}
+
+/// The numbers that a cell lists.
+fn numbers_of(cell: &str) -> Vec<u8> {
+    let words = cell.split(|c: char| !c.is_ascii_digit());
+    words.filter_map(|word| word.parse().ok()).collect()
+}
+
+/// Whether a round is one of those that a cell names.
+fn has_round(cell: &str, round: u32) -> bool {
+    match cell {
+        "any" => true,
+        "1 or 2" => round <= 2,
+        "3 + 3r" => round > 2 && round % 3 == 0,
+        "4 + 3r or 5 + 3r" => round > 2 && round % 3 != 0,
+        _ => panic!("no such rounds: {cell}"),
+    }
+}
+
+#[test]
+fn the_bit_said_is_sound_as_the_page_says() {
+    let rows = page::rows(&page::text("IMAGE.md"), "## The image");
+    let head = rows.iter().position(|row| row[0] == "decision");
+    let rows = &rows[head.expect("the table of bits said") + 2..];
+    let mut counts = [0; 2];
+    for round in (1..=8).chain([194, 195]) {
+        for bits in 0..(2 * 3 * 5) {
+            let (bit, decision, said) = (bits % 2, bits / 2 % 3, bits / 6);
+            let fits = |row: &&Vec<String>| {
+                numbers_of(&row[0]).contains(&decision) && has_round(&row[1], round)
+            };
+            let fitting: Vec<_> = rows.iter().filter(fits).collect();
+            assert_eq!(fitting.len(), 1, "one row for each decision and round");
+            let expected = allowed(&fitting[0][2], bit).contains(&said);
+            let mut image = image(&[5, 7, 9], &[1, 0, 1]);
+            image[7] = round as u8;
+            (image[8], image[9], image[15]) = (bit, said, decision);
+            if round == 1 {
+                image[ECHOES..FIRST_ROUNDS].fill(0);
+            }
+            assert_eq!(sound(&image), expected, "{round} {bit} {decision} {said}");
+            counts[usize::from(expected)] += 1;
+        }
+    }
+    println!("bits said: {counts:?} not sound and sound");
+    assert!(counts[0] > 100 && counts[1] > 50);
 }
 
 #[test]

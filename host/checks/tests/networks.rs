@@ -64,10 +64,48 @@ fn run_sizes(sizes: RangeInclusive<usize>, runs: u64) {
     let divided = all.iter().filter(|seen| seen.last_divided >= 9).count();
     println!(
         "sizes {sizes:?}, {} runs: kings differed in {kings}, a candidate joined late in {late}, \
-         bits differed past phase 1 in {divided}",
-        all.len()
+         bits differed past phase 1 in {divided}, correct ones stopped apart in {}",
+        all.len(),
+        stopped_apart(&all)
     );
     assert!(kings > 0 && late > 0 && divided > 0);
+}
+
+/// In how many runs correct ones stopped at different rounds.
+fn stopped_apart(all: &[Seen]) -> usize {
+    all.iter().filter(|seen| seen.stopped_apart()).count()
+}
+
+/// Runs against faulty ones that make correct ones stop at different rounds. Most runs
+/// do; some of them have no faulty one.
+fn run_staggered(sizes: RangeInclusive<usize>, runs: u64) {
+    let all = run_all(sizes.clone(), runs, Rushing::staggering);
+    let apart = stopped_apart(&all);
+    let divided = all.iter().filter(|seen| seen.last_divided >= 9).count();
+    let most = all.iter().filter_map(|seen| seen.stops);
+    let most = most.map(|(first, last)| (last - first) / 3).max();
+    println!(
+        "sizes {sizes:?}, {} runs: correct ones stopped apart in {apart}, at most by {} phases; \
+         bits differed past phase 1 in {divided}",
+        all.len(),
+        most.unwrap_or(0)
+    );
+    assert!(apart > all.len() / 2 && divided > 0);
+}
+
+#[test]
+fn small_networks_that_stop_apart_agree() {
+    run_staggered(4..=10, 500);
+}
+
+#[test]
+fn middle_networks_that_stop_apart_agree() {
+    run_staggered(11..=31, 20);
+}
+
+#[test]
+fn large_networks_that_stop_apart_agree() {
+    run_staggered(32..=64, 3);
 }
 
 #[test]
@@ -141,7 +179,8 @@ fn a_network_of_faulty_references_breaks() {
     assert!(found.is_some());
 }
 
-/// The faulty one of document 01's last trial.
+/// The faulty one of document 01's last trial, with document 02's void frame: an empty
+/// entry. From round 3 on it is silent.
 struct Three;
 
 impl Adversary for Three {
@@ -150,6 +189,7 @@ impl Adversary for Three {
         let bytes = match view.round {
             1 if to != 9 => frame(1, NONE, &[]),
             2 if to == 9 => frame(2, NONE, &[3]),
+            2 => Vec::new(),
             _ => return Vec::new(),
         };
         vec![Entry { sender: 3, bytes }]
@@ -163,8 +203,8 @@ fn the_last_trial() {
         let correct = [(5, bits & 1), (7, bits >> 1 & 1), (9, bits >> 2)];
         let mut network = Network::<Engine>::start(&correct, 1, 1).expect("a start");
         let mut kings = Vec::new();
-        while network.correct[0].fields().round < 15 {
-            assert!(network.correct.iter().all(|p| p.fields().undecided()));
+        for _ in 1..15 {
+            assert!(network.correct.iter().all(|p| !p.is_quiet()));
             network.step(&mut Three).expect("an accepted round");
             let states = network.correct.iter().map(|p| p.fields());
             kings.push(states.map(|s| s.king).collect::<Vec<_>>());
@@ -175,7 +215,39 @@ fn the_last_trial() {
         let states: Vec<_> = network.correct.iter().map(|p| p.fields()).collect();
         assert!(states.iter().all(|s| s.candidates == [3, 5, 7, 9]));
         assert!(states.iter().all(|s| s.decision == states[0].decision));
-        assert!(states.iter().all(|s| !s.undecided()));
+        assert!(states.iter().all(|s| !s.undecided() && s.round == 15));
+    }
+}
+
+/// Gives its number to 5 alone to echo, and void frames to the others. Before the three
+/// candidates are through it gives it to 7 too, and then to 5 alone again: with the
+/// lists of 5 and 7 these are three of four.
+struct Dividing;
+
+impl Adversary for Dividing {
+    fn entries(&mut self, view: &View, receiver: usize) -> Vec<Entry> {
+        let (round, to) = (view.round, view.correct[receiver].number);
+        let list: &[u32] = if round == 1 { &[] } else { &[3] };
+        let bytes = match (round, to) {
+            (1 | 2 | 5 | 8 | 11, 5) | (8, 7) => frame(round, NONE, list),
+            _ => Vec::new(),
+        };
+        vec![Entry { sender: 3, bytes }]
+    }
+}
+
+/// Correct 5, 7, 9 and faulty 3: 7 and 9 decide in phase 3, and 5 in phase 4.
+#[test]
+fn one_decides_a_phase_after_the_others() {
+    for bits in 0..8u8 {
+        let correct = [(5, bits & 1), (7, bits >> 1 & 1), (9, bits >> 2)];
+        let mut network = Network::<Engine>::start(&correct, 1, 1).expect("a start");
+        network.run(&mut Dividing).expect("a run");
+        let states: Vec<_> = network.correct.iter().map(|p| p.fields()).collect();
+        assert!(states.iter().map(|s| s.round).eq([15, 12, 12]));
+        assert_eq!(states[0].candidates, [3, 5, 7, 9]);
+        assert!(states[1..].iter().all(|s| s.candidates == [5, 7, 9]));
+        assert!(states.iter().all(|s| s.decision == states[0].decision));
     }
 }
 
@@ -198,9 +270,11 @@ impl Adversary for LateThree {
 fn each_records_when_it_heard_a_late_one() {
     let correct = [(5, 0), (7, 1), (9, 1)];
     let mut network = Network::<Engine>::start(&correct, 1, 1).expect("a start");
-    while network.correct[0].fields().round < 15 {
+    // 3 is no candidate: it sent no init.
+    for _ in 1..12 {
         network.step(&mut LateThree).expect("an accepted round");
     }
+    assert!(network.correct.iter().all(|p| p.is_quiet()));
     let recorded = network.correct.iter().map(|p| Engine::record(&p.image));
     let expected = [
         vec![(3, 6), (5, 0), (7, 1), (9, 1)],

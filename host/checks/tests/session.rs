@@ -53,7 +53,7 @@ fn the_printer_writes_what_is_expected() {
         endings.extend(expected.lines().last().map(str::to_string));
     }
     assert!(wrong.is_empty(), "{}", wrong.join("\n"));
-    for ending in ["cut", "long", "refused 9", "3 3 1 0 1 1 7 2"] {
+    for ending in ["cut", "long", "refused 2", "refused 9", "3 3 1 0 1 1 7 2"] {
         assert!(endings.contains(ending), "no input ends with {ending}");
     }
 }

@@ -54,7 +54,8 @@ pub fn start(number: u32, bit: u8, image: &mut [u8], out: &mut [u8], length: &mu
     }
 }
 
-/// Works one tray: moves the state to the next round and writes its frame.
+/// Works one tray: moves the state to the next round and writes its frame. The call that
+/// decides sends none: it writes nothing, and the length is 0.
 pub fn tray(image: &mut [u8], tray: &[u8], out: &mut [u8], length: &mut usize) -> u8 {
     // SAFETY: the pointers and lengths are those of slices that overlap nowhere.
     unsafe {
@@ -82,7 +83,7 @@ pub fn decision(image: &[u8]) -> u8 {
     unsafe { c::controller_decision(image.as_ptr(), image.len()) }
 }
 
-/// The last round sent; 0 for an image that is not sound.
+/// The last round sent, or the round of the decision; 0 for an image that is not sound.
 pub fn round(image: &[u8]) -> u32 {
     // SAFETY: pointer and length are those of a slice, which is only read.
     unsafe { c::controller_round(image.as_ptr(), image.len()) }

@@ -28,21 +28,22 @@ pub const MAX_LISTED: usize = MAX_NUMBERS * MAX_NUMBERS;
 pub struct Tally<'a, const ROOM: usize> {
     own: &'a [u32],
     own_bytes: [u8; 4 * MAX_NUMBERS],
-    /// How many lists are the own one or equal to it.
+    /// How many lists are the own one, count as it, or are equal to it.
     equal: usize,
     len: usize,
     numbers: [u32; ROOM],
 }
 
 impl<'a, const ROOM: usize> Tally<'a, ROOM> {
-    /// A tally that has the own list in it.
-    pub fn of(own: &'a [u32]) -> Self {
+    /// A tally that has the own list in it so many times: for oneself, and for each who
+    /// counts as having sent it.
+    pub fn of(own: &'a [u32], times: usize) -> Self {
         let mut own_bytes = [0; 4 * MAX_NUMBERS];
         write_numbers(own, &mut own_bytes);
         Tally {
             own,
             own_bytes,
-            equal: 1,
+            equal: times,
             len: 0,
             numbers: [0; ROOM],
         }

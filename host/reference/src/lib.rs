@@ -1,6 +1,6 @@
 //! The agreement engine of one controller, in plain Rust.
 //!
-//! This is written from document 01 alone and shares nothing with the compiled
+//! This is written from documents 01 and 02 alone and shares nothing with the compiled
 //! engine: it is what the compiled engine is compared with, and the yardstick
 //! of the benchmark. It has the calls of `include/controller.h`, over slices:
 //! a host lends a state image of 1,024 bytes, an output buffer and a number for
@@ -33,7 +33,8 @@ use state::State;
 #[repr(u8)]
 pub enum Refusal {
     StateNotSound = 1,
-    LastRound = 2,
+    /// The last round is sent, or the controller has decided.
+    Ended = 2,
     ShortOutput = 3,
     BadLayout = 4,
     OtherRound = 5,
@@ -49,7 +50,8 @@ pub fn start(number: u32, bit: u8, image: &mut [u8], out: &mut [u8], length: &mu
     answer(try_start(number, bit, image, out), length)
 }
 
-/// Works one tray: moves the state to the next round and writes its frame.
+/// Works one tray: moves the state to the next round and writes its frame. The call that
+/// decides sends none: it writes nothing, and the length is 0.
 pub fn tray(image: &mut [u8], tray: &[u8], out: &mut [u8], length: &mut usize) -> u8 {
     answer(try_tray(image, tray, out), length)
 }
@@ -59,7 +61,7 @@ pub fn decision(image: &[u8]) -> u8 {
     sound_state(image).map_or(255, |state| state.decision)
 }
 
-/// The last round sent; 0 for an image that is not sound.
+/// The last round sent, or the round of the decision; 0 for an image that is not sound.
 pub fn round(image: &[u8]) -> u32 {
     sound_state(image).map_or(0, |state| state.round)
 }
@@ -133,8 +135,8 @@ fn try_start(number: u32, bit: u8, image: &mut [u8], out: &mut [u8]) -> Result<u
 fn try_tray(image: &mut [u8], tray: &[u8], out: &mut [u8]) -> Result<usize, Refusal> {
     let mut state = State::blank();
     state.load(image).ok_or(Refusal::StateNotSound)?;
-    if state.round == LAST_ROUND {
-        return Err(Refusal::LastRound);
+    if state.round == LAST_ROUND || !state.undecided() {
+        return Err(Refusal::Ended);
     }
     if out.len() < MAX_FRAME {
         return Err(Refusal::ShortOutput);
@@ -153,6 +155,9 @@ fn try_tray(image: &mut [u8], tray: &[u8], out: &mut [u8]) -> Result<usize, Refu
     step::make_next_round(&mut state, &received)?;
     let image = image.try_into().map_err(|_| Refusal::StateNotSound)?;
     state.write(image);
+    if !state.undecided() {
+        return Ok(0);
+    }
     Ok(frame::write(
         state.round,
         state.said,

@@ -15,11 +15,11 @@ const RESERVED: usize = FIRST_ROUNDS + MAX_NUMBERS;
 #[derive(Clone, Debug)]
 pub struct State {
     pub number: u32,
-    /// The last round sent.
+    /// The last round sent; of a decided one, the round in which it fell quiet.
     pub round: u32,
     /// The own bit.
     pub bit: u8,
-    /// The bit said in the last frame.
+    /// The bit said in the last frame; 2 of a decided one, which sends none.
     pub said: u8,
     pub strong: bool,
     /// 0 for none.
@@ -117,12 +117,20 @@ impl State {
         let kind = Kind::of_round(self.round);
         self.bit <= 1
             && self.decision <= NONE
-            && kind.allows_bit(self.said)
-            && (kind != Kind::Value || self.said == self.bit)
+            && self.has_sound_said(kind)
             && (self.round > 2 || self.candidates.is_empty())
             && (self.round > 1 || self.echoes.is_empty())
             // A list has no 0, so this also says that the own number is not 0.
             && self.heard.find(self.number).is_ok_and(|own| self.has_sound_record(own))
+    }
+
+    /// Whether the bit said is one for a frame of this kind; a decided one sends none.
+    fn has_sound_said(&self, kind: Kind) -> bool {
+        if self.undecided() {
+            kind.allows_bit(self.said) && (kind != Kind::Value || self.said == self.bit)
+        } else {
+            self.said == NONE
+        }
     }
 
     /// Whether the first rounds are 0 for the own number, which stands at a place of

@@ -9,7 +9,10 @@ use crate::Refusal;
 
 const FEW_LISTED: usize = 256;
 
-/// Makes the round after the state's. The tray's senders are in `heard` already.
+/// Makes the round after an undecided state's. The tray's senders are in `heard` already.
+///
+/// A silent one counts as having sent what one sent oneself, opinions apart. So what one
+/// sent oneself is counted once more for each of them, and no silent king is listened to.
 pub fn make_next_round(state: &mut State, received: &Received) -> Result<(), Refusal> {
     match Kind::of_round(state.round + 1) {
         // No round comes before init: round 2 is the first one made here.
@@ -22,12 +25,13 @@ pub fn make_next_round(state: &mut State, received: &Received) -> Result<(), Ref
     Ok(())
 }
 
-/// The roster lists the senders of init, the own number included.
+/// The roster lists the senders of init. Oneself and the silent ones have no entry, and
+/// are among them.
 fn make_roster(state: &mut State, received: &Received) {
-    let mut echoes = List::of_one(state.number);
-    for (sender, _) in received.frames(state) {
-        if let Err(place) = echoes.find(sender) {
-            echoes.insert(place, sender);
+    let mut echoes = List::empty();
+    for (place, &number) in state.heard.as_slice().iter().enumerate() {
+        if !received.has_entry(place) || received.frame_at(place, state).is_some() {
+            echoes.push(number);
         }
     }
     state.echoes = echoes;
@@ -35,7 +39,7 @@ fn make_roster(state: &mut State, received: &Received) {
 
 fn make_value(state: &mut State, received: &Received) -> Result<(), Refusal> {
     let phase = (state.round as usize + 1 - 3) / 3;
-    if phase >= 1 && state.undecided() && !state.strong {
+    if phase >= 1 && !state.strong {
         if let Some(opinion) = opinion_of_king(state, received) {
             state.bit = opinion;
         }
@@ -46,16 +50,21 @@ fn make_value(state: &mut State, received: &Received) -> Result<(), Refusal> {
     } else {
         count_lists::<MAX_LISTED>(state, received)?;
     }
-    if state.undecided() && phase >= state.candidates.len() {
-        state.decision = state.bit;
+    match state.candidates.as_slice().get(phase) {
+        Some(&king) => {
+            state.king = king;
+            state.said = state.bit;
+        }
+        None => decide(state),
     }
-    state.king = if state.undecided() {
-        state.candidates.as_slice()[phase]
-    } else {
-        0
-    };
-    state.said = state.bit;
     Ok(())
+}
+
+/// The own bit is the decision. From here on nothing is sent.
+fn decide(state: &mut State) {
+    state.decision = state.bit;
+    state.king = 0;
+    state.said = NONE;
 }
 
 /// The opinion 0 or 1 in the king's turn frame; one may be king oneself.
@@ -63,7 +72,8 @@ fn opinion_of_king(state: &State, received: &Received) -> Option<u8> {
     let bit = if state.king == state.number {
         state.said
     } else {
-        received.frame_of(state.king, state)?.bit
+        let place = state.heard.find(state.king).ok()?;
+        received.frame_at(place, state)?.bit
     };
     (bit != NONE).then_some(bit)
 }
@@ -71,8 +81,9 @@ fn opinion_of_king(state: &State, received: &Received) -> Option<u8> {
 /// Echoes the numbers that a third lists, and makes candidates of those that
 /// two thirds list. Old candidates are left as they are.
 fn count_lists<const ROOM: usize>(state: &mut State, received: &Received) -> Result<(), Refusal> {
-    let mut tally = Tally::<ROOM>::of(state.echoes.as_slice());
-    for (_, frame) in received.frames(state) {
+    let times = 1 + received.silent(state);
+    let mut tally = Tally::<ROOM>::of(state.echoes.as_slice(), times);
+    for frame in received.frames(state) {
         tally.add(&frame);
     }
     let heard = state.heard.len();
@@ -124,29 +135,28 @@ fn make_propose(state: &mut State, received: &Received) {
 fn make_turn(state: &mut State, received: &Received) {
     let votes = votes(state, received);
     let heard = state.heard.len();
-    if state.undecided() {
-        match (
-            reaches_third(votes[0], heard),
-            reaches_third(votes[1], heard),
-        ) {
-            (true, false) => state.bit = 0,
-            (false, true) => state.bit = 1,
-            _ => (),
-        }
+    match (
+        reaches_third(votes[0], heard),
+        reaches_third(votes[1], heard),
+    ) {
+        (true, false) => state.bit = 0,
+        (false, true) => state.bit = 1,
+        _ => (),
     }
     state.strong = reaches_two_thirds(votes[usize::from(state.bit)], heard);
-    state.said = if state.undecided() && state.king == state.number {
+    state.said = if state.king == state.number {
         state.bit
     } else {
         NONE
     };
 }
 
-/// How many say 0, 1 and none; the own last frame counts as received.
+/// How many say 0, 1 and none; the own last frame counts as received, from oneself and
+/// from each silent one.
 fn votes(state: &State, received: &Received) -> [usize; 3] {
     let mut votes = [0; 3];
-    votes[usize::from(state.said)] += 1;
-    for (_, frame) in received.frames(state) {
+    votes[usize::from(state.said)] += 1 + received.silent(state);
+    for frame in received.frames(state) {
         votes[usize::from(frame.bit)] += 1;
     }
     votes

@@ -66,31 +66,24 @@ impl<'a> Directory<'a> {
             .any(|entry| entry.sender == 0 || entry.sender == own)
     }
 
-    /// Makes every sender heard and puts each one's frame into `received`; nothing if
-    /// more than 64 would be heard. The tray is of the state's round, and no sender is
-    /// the controller itself.
+    /// Makes every sender heard and puts each one's frame into `received`, which is
+    /// empty; nothing if more than 64 would be heard. The tray is of the state's round,
+    /// and no sender is the controller itself.
     pub fn hear(&self, state: &mut State, received: &mut Received<'a>) -> Option<()> {
-        // The place in `received` of the one at each place of heard.
-        let mut places = [NO_PLACE; MAX_NUMBERS];
         let mut guess = 0;
         for entry in self.entries() {
             let place = match place_of(&state.heard, entry.sender, guess) {
                 Ok(place) => place,
                 Err(_) if state.heard.is_full() => return None,
                 Err(place) => {
-                    places.copy_within(place..state.heard.len(), place + 1);
-                    places[place] = NO_PLACE;
+                    received.make_room(place, state.heard.len());
                     state.hear(place, entry.sender);
                     place
                 }
             };
             guess = place + 1;
             let bytes = &self.tray[entry.offset..entry.offset + entry.length];
-            if places[place] == NO_PLACE {
-                places[place] = received.add(entry.sender, bytes);
-            } else {
-                received.repeat(places[place], bytes);
-            }
+            received.add(place, bytes);
         }
         Some(())
     }
@@ -112,58 +105,75 @@ fn place_of(heard: &List, sender: u32, guess: usize) -> Result<usize, usize> {
     }
 }
 
-/// No place in `Received` yet.
-const NO_PLACE: u8 = u8::MAX;
+/// Stands for the place of a frame where there is none.
+const NO_ENTRY: u8 = u8::MAX;
 
-/// Each other sender with the bytes of its frame; nothing if its frames differ.
+/// The bytes of each other sender's frame; nothing if its frames differ.
 pub struct Received<'a> {
     len: usize,
-    frames: [(u32, Option<&'a [u8]>); MAX_NUMBERS],
+    frames: [Option<&'a [u8]>; MAX_NUMBERS],
+    /// For each place of heard, where its frame stands among the frames.
+    places: [u8; MAX_NUMBERS],
 }
 
 impl<'a> Received<'a> {
     pub fn empty() -> Received<'a> {
         Received {
             len: 0,
-            frames: [(0, None); MAX_NUMBERS],
+            frames: [None; MAX_NUMBERS],
+            places: [NO_ENTRY; MAX_NUMBERS],
         }
     }
 
-    /// A sender's first frame; the place that it has here.
-    fn add(&mut self, sender: u32, bytes: &'a [u8]) -> u8 {
-        self.frames[self.len] = (sender, Some(bytes));
-        self.len += 1;
-        (self.len - 1) as u8
+    /// A place of heard for a number that is new there; so many were heard before it.
+    fn make_room(&mut self, place: usize, heard: usize) {
+        self.places.copy_within(place..heard, place + 1);
+        self.places[place] = NO_ENTRY;
     }
 
-    /// One more frame of a sender: an equal copy counts once, and one that differs
-    /// leaves nothing.
-    fn repeat(&mut self, place: u8, bytes: &[u8]) {
-        let (_, frame) = &mut self.frames[usize::from(place)];
-        *frame = frame.filter(|first| *first == bytes);
+    /// A frame of the one at a place of heard. An equal copy counts once, and one that
+    /// differs leaves nothing.
+    fn add(&mut self, place: usize, bytes: &'a [u8]) {
+        let at = &mut self.places[place];
+        if *at == NO_ENTRY {
+            *at = self.len as u8;
+            self.frames[self.len] = Some(bytes);
+            self.len += 1;
+        } else {
+            let frame = &mut self.frames[usize::from(*at)];
+            *frame = frame.filter(|first| *first == bytes);
+        }
     }
 
-    /// The senders whose frames are not void for the state's round, with them.
-    pub fn frames(&self, state: &State) -> impl Iterator<Item = (u32, Frame<'a>)> + '_ {
+    /// How many are silent: heard before, and without an entry. Whoever is new in heard
+    /// has one, so all without an entry are silent, but for oneself.
+    pub fn silent(&self, state: &State) -> usize {
+        state.heard.len() - 1 - self.len
+    }
+
+    /// Whether the tray has an entry under the number at a place of heard.
+    pub fn has_entry(&self, place: usize) -> bool {
+        self.places[place] != NO_ENTRY
+    }
+
+    /// The frame of the one at a place of heard, if it sent one that is not void for the
+    /// state's round.
+    pub fn frame_at(&self, place: usize, state: &State) -> Option<Frame<'a>> {
+        let bytes = self.frames.get(usize::from(self.places[place]))?;
+        frame::read((*bytes)?, state.round).ok()
+    }
+
+    /// The frames that are not void for the state's round.
+    pub fn frames(&self, state: &State) -> impl Iterator<Item = Frame<'a>> + '_ {
         let round = state.round;
         self.frames[..self.len]
             .iter()
-            .filter_map(move |&(sender, bytes)| Some((sender, frame::read(bytes?, round).ok()?)))
+            .filter_map(move |&bytes| frame::read(bytes?, round).ok())
     }
 
     /// A bound for how many numbers the frames list.
     pub fn most_listed(&self) -> usize {
         let frames = self.frames[..self.len].iter();
-        frames
-            .map(|(_, bytes)| bytes.map_or(0, <[u8]>::len) / 4)
-            .sum()
-    }
-
-    /// One sender's frame, if it sent one that is not void for the state's round.
-    pub fn frame_of(&self, number: u32, state: &State) -> Option<Frame<'a>> {
-        let (_, bytes) = self.frames[..self.len]
-            .iter()
-            .find(|(sender, _)| *sender == number)?;
-        frame::read((*bytes)?, state.round).ok()
+        frames.map(|bytes| bytes.map_or(0, <[u8]>::len) / 4).sum()
     }
 }

@@ -1,4 +1,5 @@
-//! Document 01's trials and its listing, on the reference.
+//! Document 01's trials and its listing, and the sentences of document 02's requests, on
+//! the reference.
 
 #![cfg(not(feature = "fault"))]
 
@@ -30,9 +31,14 @@ impl Controller {
         reference::tray(&mut self.image, tray, &mut self.out, &mut self.length)
     }
 
-    /// The printer's line: the frame sent, then the state.
+    /// The printer's line: the frame sent, then the state. Where nothing is sent, the
+    /// kind is 0.
     fn line(&self) -> String {
-        let (sent, image) = (&self.out, &self.image);
+        let image = &self.image;
+        let sent = match self.length {
+            0 => &[0, 0, 0, 0, 0, 2, 0, 0],
+            length => &self.out[..length],
+        };
         format!(
             "{} {} {} {} {} {} {} {}",
             reference::round(image),
@@ -200,7 +206,7 @@ fn the_listing() {
         "3 3 1 0 1 1 7 2",
         "4 4 1 0 1 1 7 2",
         "5 5 1 1 1 1 7 2",
-        "6 3 1 0 1 1 0 1",
+        "6 0 2 0 1 1 0 1",
     ];
     assert_eq!(lines, expected);
 }
@@ -231,13 +237,16 @@ fn frames_that_differ_are_heard_and_say_nothing() {
 }
 
 #[test]
-fn a_run_alone_reaches_round_195_and_stops() {
+fn a_run_alone_ends_with_its_decision() {
     let mut c = Controller::start(7, 0);
-    for round in 1..=194 {
+    for round in 1..=5 {
         assert_eq!(c.tray(&empty_tray(round)), WORKED);
     }
-    assert_eq!(reference::round(&c.image), 195);
-    assert_eq!(c.tray(&empty_tray(195)), 2);
+    assert_eq!(reference::decision(&c.image), 0);
+    for round in [5, 6, 7] {
+        assert_eq!(c.tray(&empty_tray(round)), 2);
+    }
+    assert_eq!(reference::round(&c.image), 6);
 }
 
 #[test]
@@ -260,10 +269,9 @@ fn a_number_keeps_the_round_that_first_brought_it() {
     assert_eq!(c.record(), [(7, 0)]);
     assert_eq!(c.tray(&tray_from(1, &[(9, &INIT)])), WORKED);
     assert_eq!(c.record(), [(7, 0), (9, 1)]);
-    assert_eq!(
-        c.tray(&tray_from(2, &[(9, &[]), (5, &roster(&[5]))])),
-        WORKED
-    );
+    let rosters = (roster(&[7, 9]), roster(&[5]));
+    let tray = tray_from(2, &[(9, &rosters.0), (5, &rosters.1)]);
+    assert_eq!(c.tray(&tray), WORKED);
     assert_eq!(c.record(), [(5, 2), (7, 0), (9, 1)]);
     let again: [(u8, &[u8]); 4] = [(9, &[]), (8, &[]), (5, &[]), (8, &[1])];
     assert_eq!(c.tray(&tray_from(3, &again)), WORKED);
@@ -294,12 +302,9 @@ fn any_entry_brings_its_number() {
 
 #[test]
 fn the_last_tray_brings_a_number_in_round_194() {
-    let mut c = Controller::start(7, 0);
-    for round in 1..194 {
-        assert_eq!(c.tray(&empty_tray(round)), WORKED);
-    }
-    assert_eq!(c.tray(&tray_from(194, &[(5, &[])])), WORKED);
-    assert_eq!(c.record(), [(5, 194), (7, 0)]);
+    let mut c = of_four(194, [1, 2]);
+    assert_eq!(c.tray(&tray_from(194, &[(8, &[])])), WORKED);
+    assert_eq!(c.record(), [(3, 1), (5, 1), (7, 0), (8, 194), (9, 1)]);
 }
 
 #[test]
@@ -339,5 +344,330 @@ fn first_rounds_are_in_range_and_0_in_unused_places() {
         unused.resize(place, 0);
         unused.push(1);
         assert!(!is_sound_with(&unused), "a first round at {place}");
+    }
+}
+
+/// Where the image has the own bit, the bit said, strong, the king's last byte and the
+/// decision.
+const BIT: usize = 8;
+const SAID: usize = 9;
+const STRONG: usize = 10;
+const KING: usize = 14;
+const DECISION: usize = 15;
+
+/// A list at its place in an image: the count, then the numbers, all under 256.
+fn put_list(image: &mut [u8], at: usize, numbers: &[u8]) {
+    image[at..at + 260].fill(0);
+    image[at + 3] = numbers.len() as u8;
+    for (place, &number) in numbers.iter().enumerate() {
+        image[at + 4 + 4 * place + 3] = number;
+    }
+}
+
+/// Controller 7, undecided in a round, with its own bit and the bit said. It has heard
+/// 3, 5 and 9; all four are candidates, 5 is king, and the echoes are 11 and 12.
+fn of_four(round: u8, [bit, said]: [u8; 2]) -> Controller {
+    let mut c = Controller::start(7, bit);
+    c.image[7] = round;
+    c.image[SAID] = said;
+    c.image[KING] = 5;
+    put_list(&mut c.image, 16, &[3, 5, 7, 9]);
+    c.image[796..800].copy_from_slice(&[1, 1, 0, 1]);
+    if round > 1 {
+        put_list(&mut c.image, 536, &[11, 12]);
+    }
+    if round > 2 {
+        put_list(&mut c.image, 276, &[3, 5, 7, 9]);
+    }
+    assert_eq!(reference::round(&c.image), u32::from(round), "sound");
+    c
+}
+
+/// The numbers of the list at a place of the image.
+fn list(c: &Controller, at: usize) -> Vec<u8> {
+    let count = usize::from(c.image[at + 3]);
+    (0..count).map(|i| c.image[at + 4 + 4 * i + 3]).collect()
+}
+
+fn candidates(c: &Controller) -> Vec<u8> {
+    list(c, 276)
+}
+
+fn echoes(c: &Controller) -> Vec<u8> {
+    list(c, 536)
+}
+
+/// A frame of a round up to 255 without numbers.
+fn short(round: u8, kind: u8, bit: u8) -> Vec<u8> {
+    vec![0, 0, 0, round, kind, bit, 0, 0]
+}
+
+/// A turn of round 5.
+fn turn(bit: u8, numbers: &[u32]) -> Vec<u8> {
+    let mut bytes = vec![0, 0, 0, 5, 5, bit, 0, numbers.len() as u8];
+    bytes.extend(numbers.iter().flat_map(|n| n.to_be_bytes()));
+    bytes
+}
+
+/// Entries that are no silence, and say nothing: a void frame, an empty entry, and two
+/// frames that differ, one of which is good.
+fn no_silences(good: &[u8]) -> [Vec<Vec<u8>>; 4] {
+    let void = vec![1, 2, 3];
+    [
+        vec![void.clone()],
+        vec![vec![]],
+        vec![good.to_vec(), void],
+        vec![good.to_vec(), vec![]],
+    ]
+}
+
+/// Works a tray with these entries under each of the numbers.
+fn work(c: &mut Controller, from: &[u8], frames: &[Vec<u8>]) {
+    let of = |&n: &u8| frames.iter().map(move |frame| (n, frame.as_slice()));
+    let entries: Vec<(u8, &[u8])> = from.iter().flat_map(of).collect();
+    let tray = tray_from(c.image[7], &entries);
+    assert_eq!(c.tray(&tray), WORKED);
+}
+
+/// Request A7. Here and below, of four heard two reach a third and three two thirds.
+#[test]
+fn who_is_silent_in_round_1_counts_as_sender_of_init() {
+    let mut c = of_four(1, [1, 2]);
+    work(&mut c, &[], &[]);
+    assert_eq!(echoes(&c), [3, 5, 7, 9]);
+    for frames in no_silences(&INIT) {
+        let mut c = of_four(1, [1, 2]);
+        work(&mut c, &[3, 9], &frames);
+        assert_eq!(echoes(&c), [5, 7], "{frames:?}");
+    }
+}
+
+#[test]
+fn who_is_silent_in_round_2_counts_as_sender_of_the_own_list() {
+    let made = |from: &[u8], frames: &[Vec<u8>]| {
+        let mut c = of_four(2, [1, 2]);
+        work(&mut c, from, frames);
+        (candidates(&c), echoes(&c))
+    };
+    assert_eq!(made(&[], &[]), (vec![11, 12], vec![11, 12]));
+    let other = [roster(&[11])];
+    assert_eq!(made(&[3, 5], &other), (vec![11], vec![11, 12]));
+    for frames in no_silences(&other[0]) {
+        assert_eq!(made(&[3], &frames), (vec![11, 12], vec![11, 12]));
+        // In phase 0 nobody is a candidate then: it decides.
+        assert_eq!(made(&[3, 5], &frames), (vec![], vec![11, 12]));
+        assert_eq!(made(&[3, 5, 9], &frames), (vec![], vec![]));
+    }
+}
+
+#[test]
+fn who_is_silent_counts_as_sender_of_the_own_value() {
+    for bit in [0, 1] {
+        let said = |from: &[u8], frames: &[Vec<u8>]| {
+            let mut c = of_four(3, [bit, bit]);
+            work(&mut c, from, frames);
+            c.image[SAID]
+        };
+        let other = [short(3, 3, 1 - bit)];
+        assert_eq!(said(&[], &[]), bit);
+        assert_eq!(said(&[5], &other), bit);
+        assert_eq!(said(&[3, 5], &other), 2);
+        assert_eq!(said(&[3, 5, 9], &other), 1 - bit);
+        for frames in no_silences(&short(3, 3, bit)) {
+            assert_eq!(said(&[9], &frames), bit);
+            assert_eq!(said(&[5, 9], &frames), 2);
+        }
+    }
+}
+
+#[test]
+fn who_is_silent_counts_as_sender_of_the_own_proposal() {
+    let made = |bits: [u8; 2], from: &[u8], frames: &[Vec<u8>]| {
+        let mut c = of_four(4, bits);
+        work(&mut c, from, frames);
+        (c.image[BIT], c.image[STRONG])
+    };
+    for bit in [0, 1] {
+        let other = [short(4, 4, 1 - bit)];
+        // It had the other bit, and proposed this one.
+        assert_eq!(made([1 - bit, bit], &[], &[]), (bit, 1));
+        assert_eq!(made([1 - bit, bit], &[3], &other), (bit, 1));
+        // Proposals of both bits reach a third.
+        assert_eq!(made([bit, bit], &[3, 5], &other), (bit, 0));
+        for frames in no_silences(&short(4, 4, bit)) {
+            assert_eq!(made([1 - bit, bit], &[3, 5], &frames), (bit, 0));
+            assert_eq!(made([1 - bit, bit], &[3, 5, 9], &frames), (1 - bit, 0));
+        }
+        // None is a proposal too: the silent ones propose no bit.
+        assert_eq!(made([bit, 2], &[], &[]), (bit, 0));
+        assert_eq!(made([bit, 2], &[3], &other), (bit, 0));
+        assert_eq!(made([bit, 2], &[3, 5], &other), (1 - bit, 0));
+    }
+}
+
+#[test]
+fn who_is_silent_counts_as_sender_of_the_own_list_in_a_turn() {
+    let made = |from: &[u8], frames: &[Vec<u8>]| {
+        let mut c = of_four(5, [1, 2]);
+        work(&mut c, from, frames);
+        let joined = candidates(&c).into_iter().filter(|&n| n > 9).collect();
+        (joined, echoes(&c))
+    };
+    let joined_and_echoes = |joined: &[u8], echoes: &[u8]| (joined.to_vec(), echoes.to_vec());
+    let both = joined_and_echoes(&[11, 12], &[11, 12]);
+    assert_eq!(made(&[], &[]), both);
+    let other = [turn(2, &[12, 13])];
+    assert_eq!(made(&[3], &other), both);
+    let mixed = joined_and_echoes(&[12], &[11, 12, 13]);
+    assert_eq!(made(&[3, 9], &other), mixed);
+    for frames in no_silences(&other[0]) {
+        assert_eq!(made(&[3], &frames), both);
+        let echoed = joined_and_echoes(&[], &[11, 12]);
+        assert_eq!(made(&[3, 9], &frames), echoed);
+        assert_eq!(made(&[3, 5, 9], &frames), joined_and_echoes(&[], &[]));
+    }
+}
+
+#[test]
+fn a_silent_king_has_no_opinion() {
+    for bit in [0, 1] {
+        let bit_after = |said: u8, from: &[u8], frames: &[Vec<u8>]| {
+            let mut c = of_four(5, [bit, said]);
+            work(&mut c, from, frames);
+            c.image[BIT]
+        };
+        // Whatever opinion the own frame has: a sound state may have any.
+        for said in [0, 1, 2] {
+            assert_eq!(bit_after(said, &[], &[]), bit);
+            assert_eq!(bit_after(said, &[3, 9], &[turn(1 - bit, &[])]), bit);
+            assert_eq!(bit_after(said, &[5], &[turn(1 - bit, &[])]), 1 - bit);
+        }
+        for frames in no_silences(&turn(1 - bit, &[])) {
+            assert_eq!(bit_after(1 - bit, &[5], &frames), bit);
+        }
+        // The own opinion counts where one is king oneself.
+        let mut king = of_four(5, [bit, 1 - bit]);
+        king.image[KING] = 7;
+        work(&mut king, &[], &[]);
+        assert_eq!(king.image[BIT], 1 - bit);
+    }
+}
+
+#[test]
+fn only_who_was_heard_before_is_silent() {
+    // 9 is unheard and has no entry: of three heard, two values are two thirds.
+    let mut c = of_four(3, [1, 1]);
+    put_list(&mut c.image, 16, &[3, 5, 7]);
+    c.image[796..800].copy_from_slice(&[1, 1, 0, 0]);
+    work(&mut c, &[3], &[short(3, 3, 0)]);
+    assert_eq!((reference::heard(&c.image), c.image[SAID]), (3, 1));
+    // 8 is heard with this tray, by entries that say nothing: of five heard, three values
+    // are no two thirds, and one more is.
+    for frames in no_silences(&short(3, 3, 1)) {
+        let mut c = of_four(3, [1, 1]);
+        work(&mut c, &[3, 8], &frames);
+        assert_eq!((reference::heard(&c.image), c.image[SAID]), (5, 2));
+        let mut c = of_four(3, [1, 1]);
+        work(&mut c, &[8], &frames);
+        assert_eq!((reference::heard(&c.image), c.image[SAID]), (5, 1));
+    }
+}
+
+/// Controller 7 of four candidates before phase 4, in which it decides, and a tray that
+/// brings no fifth one: of four lists with 11 and 12, two are void.
+fn before_decision(bit: u8) -> (Controller, Vec<u8>) {
+    (of_four(14, [bit, 2]), tray_from(14, &[(3, &[]), (9, &[])]))
+}
+
+#[test]
+fn the_call_that_decides_sends_nothing() {
+    for bit in [0, 1] {
+        let (mut c, tray) = before_decision(bit);
+        let before = c.out;
+        assert_eq!(c.tray(&tray), WORKED);
+        assert_eq!((c.length, c.out), (0, before));
+        assert_eq!(c.line(), format!("15 0 2 0 4 4 0 {bit}"));
+        assert_eq!((c.image[BIT], c.image[SAID]), (bit, 2));
+    }
+}
+
+#[test]
+fn a_decided_one_is_refused_under_2() {
+    let (mut c, tray) = before_decision(1);
+    assert_eq!(c.tray(&tray), WORKED);
+    assert_eq!(reference::decision(&c.image), 1);
+    let (image, out) = (c.image, c.out);
+    let trays = [empty_tray(15).to_vec(), empty_tray(14).to_vec(), vec![]];
+    for tray in &trays {
+        assert_eq!(c.tray(tray), 2);
+        let Controller { image, out, length } = &mut c;
+        assert_eq!(reference::tray(image, tray, &mut out[..263], length), 2);
+        assert_eq!(reference::tray(image, tray, &mut [], length), 2);
+    }
+    assert_eq!((c.image, c.out, c.length), (image, out, 0));
+    c.image[1023] = 1;
+    assert_eq!(c.tray(&trays[0]), 1);
+}
+
+#[test]
+fn a_decision_still_needs_room_for_a_frame() {
+    let (mut c, tray) = before_decision(1);
+    let Controller { image, out, length } = &mut c;
+    assert_eq!(reference::tray(image, &tray, &mut out[..263], length), 3);
+    assert_eq!(reference::decision(image), 2);
+}
+
+#[test]
+fn a_decided_state_says_none_and_an_undecided_one_what_its_kind_allows() {
+    for round in [1, 2, 3, 4, 5, 6, 193, 194, 195] {
+        for bits in 0..(3 * 2 * 5) {
+            let (decision, bit, said) = (bits % 3, bits / 3 % 2, bits / 6);
+            let mut c = of_four(round, [0, if round % 3 == 0 { 0 } else { 2 }]);
+            (c.image[BIT], c.image[SAID], c.image[DECISION]) = (bit, said, decision);
+            let sound = match (decision, round) {
+                (0 | 1, _) | (2, 1 | 2) => said == 2,
+                (_, _) if round % 3 == 0 => said == bit,
+                _ => said <= 2,
+            };
+            let shown = reference::round(&c.image) == u32::from(round);
+            assert_eq!(shown, sound, "round {round} {bit} {said} {decision}");
+        }
+    }
+}
+
+/// Correct 5, 7, 9 and faulty 3, which sends init to 5 and 7 only; then to these a void
+/// frame and to 9 a roster of just 3; then nothing.
+#[test]
+fn the_last_trial() {
+    for bits in 0..8u8 {
+        let numbers = [5, 7, 9];
+        let mut line = numbers.map(|n| Controller::start(n.into(), bits >> (n / 2 - 2) & 1));
+        let mut kings = Vec::new();
+        for round in 1..15 {
+            assert!(line.iter().all(|c| reference::decision(&c.image) == 2));
+            let sent: Vec<Vec<u8>> = line.iter().map(|c| c.out[..c.length].to_vec()).collect();
+            for (c, own) in line.iter_mut().zip(numbers) {
+                let others = numbers.iter().copied().zip(sent.iter().map(Vec::as_slice));
+                let mut entries: Vec<_> = others.filter(|&(n, _)| n != own).collect();
+                let of_three = match (round, own) {
+                    (1, 5 | 7) => Some(INIT.to_vec()),
+                    (2, 5 | 7) => Some(vec![]),
+                    (2, _) => Some(roster(&[3])),
+                    _ => None,
+                };
+                entries.extend(of_three.iter().map(|frame| (3, frame.as_slice())));
+                assert_eq!(c.tray(&tray_from(round, &entries)), WORKED);
+            }
+            if round == 2 || round == 5 {
+                kings.push(line.each_ref().map(|c| reference::king(&c.image)));
+                if round == 5 {
+                    assert!(line.iter().all(|c| candidates(c) == [3, 5, 7, 9]));
+                }
+            }
+        }
+        assert_eq!(kings, [[5, 5, 3], [5, 5, 5]]);
+        let decisions = line.each_ref().map(|c| reference::decision(&c.image));
+        assert!(decisions[0] != 2 && decisions == [decisions[0]; 3]);
+        assert!(line.iter().all(|c| c.length == 0));
     }
 }
