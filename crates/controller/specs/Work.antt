@@ -1,5 +1,4 @@
 -- Words for the code's work, a file for each file of src/. They are no part of the rules.
-pub mod Alike
 pub mod Bit
 pub mod Calls
 pub mod First

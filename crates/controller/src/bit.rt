@@ -15,12 +15,11 @@ use crate::lists::has_at;
 use crate::lists::place_in;
 use crate::received::Counts;
 use crate::received::received_bit;
-use crate::received::silent_bit;
 use crate::state::Fields;
 use wire::limits::MAX_NUMBERS;
 use wire::limits::NO_BIT;
 
-// The opinion of the state's king, 2 where it has none. A king that is not heard sent nothing.
+// The opinion of the state's king, 2 where it has none. A king that is not heard sent nothing, and one that is silent counts as sending no opinion.
 fn king_opinion(
     fields: Fields,
     heard: &[u32; MAX_NUMBERS],
@@ -33,15 +32,12 @@ fn king_opinion(
     let king = fields.king;
     let place = place_in(heard, fields.heard, king);
     if has_at(heard, fields.heard, place, king) {
-        let bit = received_bit(
-            fields.own,
-            fields.round,
-            fields.said,
-            silent_bit(fields.round, fields.said),
-            tray,
-            king,
-            notes[place],
-        );
+        let absent = if king == fields.own {
+            fields.said
+        } else {
+            NO_BIT
+        };
+        let bit = received_bit(fields.round, absent, tray, notes[place]);
         if bit <= 1 { bit } else { NO_BIT }
     } else {
         NO_BIT

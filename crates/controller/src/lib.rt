@@ -1,5 +1,4 @@
 // One controller's part in a run: its state, and the two calls, start and tray. Bytes are known through the crate wire alone.
-mod alike;
 mod bit;
 pub mod calls;
 mod first;

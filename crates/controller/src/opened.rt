@@ -13,12 +13,12 @@ ghost use Rattle.controller.specs.Fields.{stateOf};
 ghost use Rattle.controller.specs.Received.{readIn, listIn};
 ghost use Rattle.controller.specs.Work.Received.{noted};
 ghost use Rattle.controller.specs.Work.Opened.{listUnder, endMark, listFrom, Lies, SpanOf, Openable, OpensAll, AddsTo, Openings, OwnFirst, SpanIn, NumbersIn, startLimit};
-use crate::alike::alike;
 use crate::received::sent_count;
 use crate::state::Fields;
 use wire::found::Found;
 use wire::found::NO_FRAME;
 use wire::found::found_by;
+use wire::found::same_frames;
 use wire::limits::FRAME_HEADER;
 use wire::limits::MAX_NUMBERS;
 use wire::limits::NUMBER_WIDTH;
@@ -103,92 +103,73 @@ pub(crate) fn number_in(
     }
 }
 
-// Opens a list that `weight` controllers sent, behind the `len` open ones. One that is equal to the own list is counted with that one instead.
-fn open_list(
+// The place of the list received with a note: that of an open one that is sure to be equal, else `len`, where it is opened.
+fn place_list(
+    round: u32,
     own: &[u32],
     tray: &[u8],
-    list: Span,
-    weight: usize,
+    note: u32,
+    last: u32,
+    slot: usize,
     starts: &mut [usize],
     counts: &mut [usize],
-    sent: &mut [usize],
     len: usize,
-) -> usize
-    requires { ⌜ Openings (now own) (now starts) (now counts) (now sent) len weight × (getD (now counts) 0 0 ≤ maxNumbers) × SpanIn (now tray) list ⌝ }
-    ensures { λ r. ⌜ AddsTo own tray (wordsAt (before tray) (list .start) (list .count)) weight len starts counts sent r ⌝ }
-{
+) -> usize {
+    if note == NO_FRAME {
+        return 0;
+    }
+    if same_frames(tray, last, note) {
+        return slot;
+    }
+    let list = list_of(tray, note, round);
     let start = list.start;
     let count = list.count;
     if count == counts[0] {
         if same_list(tray, start, own, count) {
-            sent[0] += weight;
-            return len;
+            return 0;
         }
     }
     starts[len] = start;
     counts[len] = count;
-    sent[len] = weight;
-    len + 1
+    len
 }
 
-// Opens the list received under the number `x`, with the note on it, and which `weight` controllers sent.
-fn open_received(
-    fields: Fields,
-    own: &[u32],
-    tray: &[u8],
-    x: u32,
-    note: u32,
-    weight: usize,
-    starts: &mut [usize],
-    counts: &mut [usize],
-    sent: &mut [usize],
-    len: usize,
-) -> usize
-    requires { ⌜ Openings (now own) (now starts) (now counts) (now sent) len weight × OwnFirst fields (now counts) ⌝ }
-    ensures { λ r. ⌜ AddsTo own tray (listUnder fields (before own) (before tray) x note) weight len starts counts sent r ⌝ }
-{
-    if (x == fields.own) | (note == NO_FRAME) {
-        sent[0] += weight;
-        return len;
-    }
-    let list = list_of(tray, note, fields.round);
-    open_list(own, tray, list, weight, starts, counts, sent, len)
-}
-
-// Opens the list received under each heard number, and returns how many are open. Equal lists that follow each other are opened once, and those
-// that are equal to the own one not at all.
 pub(crate) fn open_lists(
     fields: Fields,
-    heard: &[u32; MAX_NUMBERS],
     own: &[u32],
     tray: &[u8],
     notes: &[u32; MAX_NUMBERS],
     starts: &mut [usize],
     counts: &mut [usize],
     sent: &mut [usize],
-) -> usize
-    requires { ⌜ Openable fields (now heard) (now own) (now tray) (now notes) (now starts) (now counts) (now sent) ⌝ }
-    ensures { λ r. ⌜ OpensAll (stateOf fields (before heard) [] (before own)) (before tray) (after starts)
-        (after counts) (after sent) r ⌝ }
-{
+) -> usize {
     counts[0] = sent_count(fields);
     let mut len = 1;
+    let mut last = NO_FRAME;
+    let mut slot = 0;
     let mut j = 0;
     while j < fields.heard {
-        let weight = alike(fields.own, tray, heard, fields.heard, notes, j);
-        len = open_received(
-            fields,
+        let note = notes[j];
+        let place = place_list(
+            fields.round,
             own,
             tray,
-            heard[j],
-            notes[j],
-            weight,
+            note,
+            last,
+            slot,
             starts,
             counts,
-            sent,
             len,
         );
-        j += weight;
+        sent[place] += 1;
+        if place == len {
+            len += 1;
+        }
+        if note != NO_FRAME {
+            last = note;
+            slot = place;
+        }
+        j += 1;
     }
     len
 }

@@ -1,5 +1,6 @@
 // What is received in a round: who is heard, and what the frame under each heard number says.
 ghost use mathlib.Core.Bool.{true, cond};
+ghost use mathlib.Core.Logic.{_≢_};
 ghost use mathlib.Core.Path.{_≡_};
 ghost use Prim.Native.Nat.{_≤_};
 ghost use lib.Dec.{eqb};
@@ -12,7 +13,7 @@ ghost use Rattle.wire.specs.Notes.{noFrame};
 ghost use Rattle.wire.specs.Tray.{wellFormed, entries};
 ghost use Rattle.controller.specs.State.{soundList};
 ghost use Rattle.controller.specs.Received.{senders, readIn};
-ghost use Rattle.controller.specs.Work.Received.{noted, othersOnly, receivedBy, Hears, bitUnder, CountsBits, WhereReady, sentCount, CountsFew, silentBit};
+ghost use Rattle.controller.specs.Work.Received.{noted, othersOnly, receivedBy, Hears, bitUnder, CountsBits, AnyReady, sentCount, CountsFew};
 ghost use Rattle.controller.specs.Work.Lists.{inPlaces};
 use crate::lists::ABSENT;
 use crate::lists::find_near;
@@ -29,8 +30,6 @@ use wire::frame::kind_of;
 use wire::frame::max_count;
 use wire::limits::ENTRY_WIDTH;
 use wire::limits::MAX_NUMBERS;
-use wire::limits::NO_BIT;
-use wire::limits::TURN;
 use wire::read::read_frame;
 use wire::tray::directory;
 use wire::tray::entry_count;
@@ -131,30 +130,12 @@ fn noted_bit(tray: &[u8], note: u32, round: u32) -> u8
     frame_bit(part_of(tray, offset, len), round)
 }
 
-// What one counts as saying that was heard before and has no entry: what oneself says, but no opinion.
-pub(crate) fn silent_bit(round: u32, said: u8) -> u8
-    ensures { λ r. ⌜ r ≡ silentBit round said ⌝ }
+// The bit received with a note: `absent` where there is no entry, 3 where the frame is void or there are several.
+pub(crate) fn received_bit(round: u32, absent: u8, tray: &[u8], note: u32) -> u8
+    ensures { λ r. ⌜ r ≡ bitUnder round absent (before tray) note ⌝ }
 {
-    if kind_of(round) == TURN { NO_BIT } else { said }
-}
-
-// The bit received under the number `x`, with the note on it: `said` from oneself, `silent` from one that was heard before and has no entry; 3 where the
-// frame is void or there are several.
-pub(crate) fn received_bit(
-    own: u32,
-    round: u32,
-    said: u8,
-    silent: u8,
-    tray: &[u8],
-    x: u32,
-    note: u32,
-) -> u8
-    ensures { λ r. ⌜ r ≡ bitUnder own round said silent (before tray) x note ⌝ }
-{
-    if x == own {
-        said
-    } else if note == NO_FRAME {
-        silent
+    if note == NO_FRAME {
+        absent
     } else {
         noted_bit(tray, note, round)
     }
@@ -184,30 +165,17 @@ pub(crate) struct Counts {
     pub ones: usize,
 }
 
-// Counts the frames of the round, bit by bit.
-pub(crate) fn count_bits(
-    fields: Fields,
-    heard: &[u32; MAX_NUMBERS],
-    tray: &[u8],
-    notes: &[u32; MAX_NUMBERS],
-) -> Counts
+// Counts the values or the proposals of the round, bit by bit. Who has no entry, oneself or one that is silent, says what oneself says.
+pub(crate) fn count_bits(fields: Fields, tray: &[u8], notes: &[u32; MAX_NUMBERS]) -> Counts
     requires { ⌜ fields .heard ≤ maxNumbers ⌝ }
-    ensures { λ r. ⌜ CountsFew (fields .heard) r × WhereReady fields heard tray notes (λ s b. CountsBits (kindOf (s .round)) (receivedBy s b) r) ⌝ }
+    ensures { λ r. ⌜ CountsFew (fields .heard) r
+        × AnyReady fields tray notes (λ s b. kindOf (s .round) ≢ 5 → CountsBits (kindOf (s .round)) (receivedBy s b) r) ⌝ }
 {
-    let silent = silent_bit(fields.round, fields.said);
     let mut zeros = 0;
     let mut ones = 0;
     let mut j = 0;
     while j < fields.heard {
-        let bit = received_bit(
-            fields.own,
-            fields.round,
-            fields.said,
-            silent,
-            tray,
-            heard[j],
-            notes[j],
-        );
+        let bit = received_bit(fields.round, fields.said, tray, notes[j]);
         zeros += one_if(bit, 0);
         ones += one_if(bit, 1);
         j += 1;

@@ -11,7 +11,6 @@ ghost use Rattle.controller.specs.Rotation.{roster};
 ghost use Rattle.controller.specs.Work.Received.{receivedBy, WhereReady};
 ghost use Rattle.controller.specs.Work.Lists.{inPlaces};
 use crate::received::received_bit;
-use crate::received::silent_bit;
 use crate::state::Fields;
 use wire::limits::MAX_NUMBERS;
 use wire::limits::NO_BIT;
@@ -27,20 +26,11 @@ pub(crate) fn roster(
     requires { ⌜ (fields .heard ≤ maxNumbers) × (now list ≡ (stored []) .at) ⌝ }
     ensures { λ r. ⌜ WhereReady fields heard tray notes (λ s b. kindOf (s .round) ≡ 1 → inPlaces r (after list) ≡ stored (roster (receivedBy s b))) ⌝ }
 {
-    let silent = silent_bit(fields.round, fields.said);
     let mut k = 0;
     let mut j = 0;
     while j < fields.heard {
         let x = heard[j];
-        let bit = received_bit(
-            fields.own,
-            fields.round,
-            fields.said,
-            silent,
-            tray,
-            x,
-            notes[j],
-        );
+        let bit = received_bit(fields.round, fields.said, tray, notes[j]);
         if bit == NO_BIT {
             list[k] = x;
             k += 1;

@@ -71,7 +71,7 @@ fn make_propose(
     ensures { λ r. ⌜ WhereReady fields heard tray notes (λ s b. kindOf (s .round + 1) ≡ 4 → MakesFields s b r) ⌝ }
 {
     let mut next = fields;
-    let counts = count_bits(fields, heard, tray, notes);
+    let counts = count_bits(fields, tray, notes);
     next.said = proposal(counts, fields.heard);
     next.round = fields.round + 1;
     next
@@ -87,7 +87,7 @@ fn make_turn(
     ensures { λ r. ⌜ WhereReady fields heard tray notes (λ s b. kindOf (s .round + 1) ≡ 5 → MakesFields s b r) ⌝ }
 {
     let mut next = fields;
-    let counts = count_bits(fields, heard, tray, notes);
+    let counts = count_bits(fields, tray, notes);
     let turn = spoken(fields, counts, fields.heard);
     next.bit = turn.bit;
     next.strong = turn.strong;

@@ -184,7 +184,6 @@ fn tally(
     let mut sent = [0usize; MAX_LISTS];
     let len = open_lists(
         fields,
-        heard,
         own,
         tray,
         notes,

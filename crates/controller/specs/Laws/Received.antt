@@ -4,7 +4,7 @@ use mathlib.Core.Bool.{Bool, true, false, cond, _&&_, and-false}
 use mathlib.Core.List.{List, [], _∷_, List·Memᴰ·head, List·Memᴰ·tail, List·Memᴰ·not-nil, List·Memᴰ·eq-of-singleton, Memᴰ·cast, Memᴰ·of-map}
 use mathlib.Core.Logic.{inl, inr, _⊎_, _↔_, _≢_}
 use mathlib.Core.Option.{Option, some, none}
-use mathlib.Core.Path.{_≡_, refl, sym, _∙_, ap}
+use mathlib.Core.Path.{_≡_, refl, _∙_, ap}
 use borrow.Author.Tests.{leb-false, le-leb, eq-eqb, ne-eqb}
 use native.Mathlib.Decide.{ℕ-discrete}
 use native.Mathlib.Omega.{arith}
@@ -22,7 +22,6 @@ use Rattle.controller.specs.State.{View, undecided}
 use Rattle.controller.specs.Received.{frameSaying, frameOf, standIn, senders, readIn, isNothing, silent, receive, says, opinionIn, listIn}
 use Rattle.controller.specs.Laws.Lists.{true-or-false, in-mem, out-mem, inside-length, insert-all-in, insert-all-rising, rising-gives, rising-test}
 use Rattle.controller.specs.Laws.State.{SoundList, Sound}
-use Rattle.controller.specs.Work.Received.{silentBit}
 
 -- ---- the directory's senders
 
@@ -130,9 +129,13 @@ no-opinion-fits : (k b : ℕ) → bitFits k b ≡ true → bitFits k (cond (eqb 
 unfolding bitFits
 no-opinion-fits k b h = elim (ℕ-discrete k 5) [ yes e ↦ rw e | no d ↦ rw (ne-eqb k 5 d) h ]
 
+-- what one says that is silent: what the state says, but no opinion
+abbrev pub silentBit : View → ℕ
+silentBit v = cond (eqb (kindOf (v .round)) 5) 2 (v .bit .said)
+
 -- a sound state that has not decided
 module _ (v : View) (h : Sound v) (u : undecided v ≡ true) where
-  silent-fits : bitFits (kindOf (v .round)) (silentBit (v .round) (v .bit .said)) ≡ true
+  silent-fits : bitFits (kindOf (v .round)) (silentBit v) ≡ true
   silent-fits = no-opinion-fits (kindOf (v .round)) (v .bit .said) (h .said u)
 
   -- its frame is allowed, so it is written, and reads back
@@ -145,21 +148,21 @@ module _ (v : View) (h : Sound v) (u : undecided v ≡ true) where
   own-frame-reads = reads-written (frameOf v) frame-writable
 
   -- what its frame says, and what one that is silent says
-  frame-bit : bitSaid ((frameOf v) .said) ≡ v .bit .said
+  pub frame-bit : bitSaid ((frameOf v) .said) ≡ v .bit .said
   unfolding frameOf
   frame-bit = saying-bit v (v .bit .said) (h .said u)
 
-  stand-in-bit : bitSaid ((standIn v) .said) ≡ silentBit (v .round) (v .bit .said)
+  pub stand-in-bit : bitSaid ((standIn v) .said) ≡ silentBit v
   unfolding standIn
-  stand-in-bit = saying-bit v (silentBit (v .round) (v .bit .said)) silent-fits
+  stand-in-bit = saying-bit v (silentBit v) silent-fits
 
   pub frame-says : (k b : ℕ) → says k b (some (frameOf v)) ≡ (eqb (kindOf (v .round)) k && eqb (v .bit .said) b)
   unfolding frameOf
   frame-says k b = rw (saying-kind v (v .bit .said), frame-bit)
 
-  pub stand-in-says : (k b : ℕ) → says k b (some (standIn v)) ≡ (eqb (kindOf (v .round)) k && eqb (silentBit (v .round) (v .bit .said)) b)
+  pub stand-in-says : (k b : ℕ) → says k b (some (standIn v)) ≡ (eqb (kindOf (v .round)) k && eqb (silentBit v) b)
   unfolding standIn
-  stand-in-says k b = rw (saying-kind v (silentBit (v .round) (v .bit .said)), stand-in-bit)
+  stand-in-says k b = rw (saying-kind v (silentBit v), stand-in-bit)
 
 pub frame-list : (v : View) → listIn (some (frameOf v)) ≡ cond (ltb 0 (maxCount (kindOf (v .round)))) (v .rotor .echoes) []
 unfolding frameOf
@@ -192,7 +195,7 @@ pub received-allowed : (v : View) (es : List Entry) → Sound v → undecided v 
     → writable c ≡ true
 unfolding standIn
 received-allowed v es h u x =
-    received-any (λ c. writable c ≡ true) v es x (frame-writable v h u) (saying-writable v (silentBit (v .round) (v .bit .said)) h (silent-fits v h u))
+    received-any (λ c. writable c ≡ true) v es x (frame-writable v h u) (saying-writable v (silentBit v) h (silent-fits v h u))
     (read-allowed (v .round) (under x es))
 
 list-positive : (o : Option Content) → ((c : Content) → o ≡ some c → writable c ≡ true) → (y : ℕ) → In y (listIn o) → 0 < y
@@ -213,15 +216,8 @@ read-of-kind t several c e = let z : _≡_ {A = ℕ} 0 1 = cc in absurd (omega a
 received-kind : (v : View) (es : List Entry) (x : ℕ) (c : Content) → (receive v es) .from x ≡ some c → kindSaid (c .said) ≡ kindOf (v .round)
 unfolding frameOf standIn
 received-kind v es x =
-    received-any (λ c. kindSaid (c .said) ≡ kindOf (v .round)) v es x (saying-kind v (v .bit .said)) (saying-kind v (silentBit (v .round) (v .bit .said)))
+    received-any (λ c. kindSaid (c .said) ≡ kindOf (v .round)) v es x (saying-kind v (v .bit .said)) (saying-kind v (silentBit v))
     (read-of-kind (v .round) (under x es))
-
--- the bit under the own number, of one that is silent, or of a frame that was read
-pub bit-under : (v : View) → Sound v → undecided v ≡ true → (s t : Bool) (o : Option Content)
-    → cond s (v .bit .said) (cond t (silentBit (v .round) (v .bit .said)) (bitIn o)) ≡ bitIn (cond s (some (frameOf v)) (cond t (some (standIn v)) o))
-bit-under v h u true t o = sym (frame-bit v h u)
-bit-under v h u false true o = sym (stand-in-bit v h u)
-bit-under v h u false false o = refl
 
 says-by-bit : (k b : ℕ) (o : Option Content) → ((c : Content) → o ≡ some c → kindSaid (c .said) ≡ k) → b < 3 → eqb (bitIn o) b ≡ says k b o
 says-by-bit k b none kind l = ne-eqb 3 b (λ e. omega arith)

@@ -12,11 +12,12 @@
 --     Adds w b l k m .. r        the list l, which k controllers sent, is counted with the own one, or opened behind the m open ones; r are open
 --                                then; AddsTo, the same of lent lists
 --     OwnFirst f n               the own list comes first, n has how many numbers it has
---     listUnder f e b x k        the list received under x, with the note k on it, where f are the state's fields and e the places of its echoes
+--     listUnder f e b k          the list of the frame that the note k is of, or the own one where it is of none; f are the state's fields and e the places
+--                                of its echoes
 --     Openable f h e b t ..      what opening finds: a state that is ready for the tray b, and room
 --     OpensAll v b s n c m       the m open lists count each number as the lists that the state v receives do
 use Prim.Native.Nat.{ℕ, zero, suc, _+_, _*_, _<_, _≤_}
-use mathlib.Core.Bool.{cond, _||_}
+use mathlib.Core.Bool.{cond}
 use mathlib.Core.List.{List, []}
 use mathlib.Core.Path.{_≡_}
 use mathlib.Core.Logic.{_⊎_}
@@ -126,9 +127,9 @@ AddsTo own b l weight m starts counts sent r =
 abbrev pub OwnFirst : Fields → List ℕ → Type 0
 OwnFirst f n = (getD n 0 0 ≡ sentCount f) × (sentCount f ≤ maxNumbers)
 
-abbrev pub listUnder : Fields → List ℕ → List ℕ → ℕ → ℕ → List ℕ
-listUnder f e b x k =
-    cond (eqb x (f .own) || eqb k noFrame) (cond (ltb 0 (maxCount (kindOf (f .round)))) (listed (record { len = f .echoes; at = e })) [])
+abbrev pub listUnder : Fields → List ℕ → List ℕ → ℕ → List ℕ
+listUnder f e b k =
+    cond (eqb k noFrame) (cond (ltb 0 (maxCount (kindOf (f .round)))) (listed (record { len = f .echoes; at = e })) [])
     (listIn (readIn (f .round) (noted b k)))
 
 pub record Openable (f : Fields) (h e b t s n w : List ℕ) : Type 0 where

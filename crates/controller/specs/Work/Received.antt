@@ -5,20 +5,17 @@
 --     Hears o b l r at f       r is at most 64 exactly if the senders of the tray b fit, o being the own number, and at most 64 are then heard; if so, the
 --                              list of r numbers with the places at is the stored form of those, and f has a note on each of them
 --     receivedBy s b           what the state s has received with the tray b
---     Ready s b f              what a step finds: a state s that has not decided and is sound, but for its record, a tray b whose senders are all heard, and
---                              in f a note on each number heard
+--     Ready s b f              what a step finds: a state s that has not decided and is sound, but for its record, a tray b whose senders are all heard and
+--                              none is oneself, and in f a note on each number heard; the own number's, like that of one that is silent, is none
 --     WhereReady f h b t P     P holds of each state with the fields f, where h are those heard, and of the tray b, if it is ready
---     contentUnder s b x k     the content of the frame received under x, who is heard in the state s, with the note k on x in the tray b
---     bitUnder o t d q b x k   that frame's bit, where o is the own number, t the round, d said and q what one says that is silent; 3 where it is void or there
---                              are several
---     silentBit t d            what one says that is silent in round t, where d is said
+--     AnyReady f b t P         the same, whoever is heard
+--     bitUnder t d b k         the bit of the frame that the note k is of, read in round t; d where it is of none, 3 where the frame is void or there are several
 --     CountsBits k r n         n has how many of those heard sent each bit in a frame of kind k, where r was received
 --     CountsFew h n            neither count is above h
 --     sentCount f              how many numbers the own frame lists
 use Prim.Native.Nat.{ℕ, _<_, _≤_}
 use mathlib.Core.Bool.{Bool, true, cond, not, _&&_}
 use mathlib.Core.List.{List}
-use mathlib.Core.Option.{Option, some}
 use mathlib.Core.Path.{_≡_}
 use lib.Dec.{leb, ltb, eqb}
 use lib.ListN.{length, getD}
@@ -28,12 +25,12 @@ use Rattle.wire.specs.Numbers.{stored, listed}
 use Rattle.wire.specs.Found.{Under, meaning, found}
 use Rattle.wire.specs.Notes.{noFrame, foundBy}
 use Rattle.wire.specs.Tray.{wellFormed, entries}
-use Rattle.wire.specs.Frame.{Content, kindOf, maxCount, bitIn}
+use Rattle.wire.specs.Frame.{kindOf, maxCount, bitIn}
 use Rattle.wire.specs.declared.frame.Numbers.{Numbers}
 use Rattle.controller.specs.Fields.{Lent, stateOf}
 use Rattle.controller.specs.Lists.{In, mem, insertAll}
 use Rattle.controller.specs.State.{view, undecided, soundRules}
-use Rattle.controller.specs.Received.{Received, frameOf, standIn, senders, readIn, receive, says, count}
+use Rattle.controller.specs.Received.{Received, senders, readIn, receive, says, count}
 use Rattle.controller.specs.declared.state.Fields.{Fields}
 use Rattle.controller.specs.declared.state.State.{State}
 use Rattle.controller.specs.declared.received.Counts.{Counts}
@@ -61,18 +58,12 @@ pub record Ready (s : State) (b f : List ℕ) : Type 0 where
   pub active : undecided (view s) ≡ true
   pub packed : wellFormed b ≡ true
   pub numbered : ¬ In 0 (senders (entries b))
+  pub others : ¬ In (s .own) (senders (entries b))
   pub heard : (receivedBy s b) .heard ≡ listed (s .heard)
   pub notes : (j : ℕ) → j < length (listed (s .heard)) → foundBy (getD f j 0) ≡ found b (getD (listed (s .heard)) j 0)
 
-abbrev pub contentUnder : State → List ℕ → ℕ → ℕ → Option Content
-contentUnder s b x k = cond (eqb x (s .own)) (some (frameOf (view s))) (cond (eqb k noFrame) (some (standIn (view s))) (readIn (s .round) (noted b k)))
-
--- what one says that is silent: what the state says, but no opinion
-abbrev pub silentBit : ℕ → ℕ → ℕ
-silentBit round said = cond (eqb (kindOf round) 5) 2 said
-
-abbrev pub bitUnder : ℕ → ℕ → ℕ → ℕ → List ℕ → ℕ → ℕ → ℕ
-bitUnder own round said silent b x k = cond (eqb x own) said (cond (eqb k noFrame) silent (bitIn (readIn round (noted b k))))
+abbrev pub bitUnder : ℕ → ℕ → List ℕ → ℕ → ℕ
+bitUnder round absent b k = cond (eqb k noFrame) absent (bitIn (readIn round (noted b k)))
 
 pub record CountsBits (k : ℕ) (r : Received) (n : Counts) : Type 0 where
   pub zeros : n .zeros ≡ count (says k 0) r
@@ -88,3 +79,7 @@ sentCount f = cond (ltb 0 (maxCount (kindOf (f .round)))) (f .echoes) 0
 abbrev pub WhereReady : Fields → Lent → Lent → Lent → (State → List ℕ → Type 0) → Type 0
 WhereReady f h tray notes P =
     (c e : List ℕ) → Ready (stateOf f (before h) c e) (before tray) (before notes) → P (stateOf f (before h) c e) (before tray)
+
+abbrev pub AnyReady : Fields → Lent → Lent → (State → List ℕ → Type 0) → Type 0
+AnyReady f tray notes P =
+    (h c e : List ℕ) → Ready (stateOf f h c e) (before tray) (before notes) → P (stateOf f h c e) (before tray)

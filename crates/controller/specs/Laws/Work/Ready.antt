@@ -1,34 +1,33 @@
 -- Laws of what a step finds: those heard, the note on each of them, and what is received under each.
-use Prim.Native.Nat.{ℕ, _+_, _/_, _%_, _≤_, _<_}
-use mathlib.Core.Bool.{Bool, true, false, cond}
-use mathlib.Core.List.{List}
-use mathlib.Core.Option.{Option, some, none}
+use Prim.Native.Nat.{ℕ, _/_, _%_, _≤_, _<_}
+use mathlib.Core.Bool.{Bool, true, false, cond, true≢false}
+use mathlib.Core.List.{List, Memᴰ·cast}
+use mathlib.Core.Logic.{_≢_}
+use mathlib.Core.Option.{some, none}
 use mathlib.Core.Path.{_≡_, refl, sym, ap, _∙_}
-use native.Mathlib.Decide.{ℕ-discrete}
 use native.Mathlib.Omega.{arith}
-use borrow.Author.Tests.{ne-eqb, le-ltb}
+use borrow.Author.Tests.{eq-eqb, ne-eqb, le-ltb}
 use lib.Dec.{leb, ltb, eqb}
 use lib.ListN.{length, getD}
 use lib.Seq.{getD-take}
-use Rattle.wire.specs.Frame.{Content, kindOf, bitIn}
+use Rattle.wire.specs.Frame.{kindOf, bitIn}
 use Rattle.wire.specs.Limits.{maxNumbers}
 use Rattle.wire.specs.Numbers.{listed}
-use Rattle.wire.specs.Found.{Under, meaning, under}
-use Rattle.wire.specs.Laws.Found.{found-meaning}
+use Rattle.wire.specs.Found.{meaning, under}
+use Rattle.wire.specs.Laws.Found.{found-meaning, under-nothing}
 use Rattle.wire.specs.Notes.{noFrame, different}
 use Rattle.wire.specs.Tray.{entries}
 use Rattle.wire.specs.declared.found.Found.the-variants.{At, Nothing, Several}
 use Rattle.wire.specs.declared.frame.Numbers.{Numbers}
 use Rattle.controller.specs.Laws.Lists.{getD-in, in-mem, mem-in, mem-out, count-short, rising-place}
-use Rattle.controller.specs.Laws.Received.{unheard-received, bit-under, received-says, received-opinion}
-use Rattle.controller.specs.Laws.State.{rules-give, sound-list-gives, rules-heard}
+use Rattle.controller.specs.Laws.Received.{unheard-received, received-other, silentBit, frame-bit, stand-in-bit, stand-in-list, received-says, received-opinion}
+use Rattle.controller.specs.Laws.State.{Sound, rules-give, sound-list-gives, rules-heard}
 use Rattle.controller.specs.Laws.Work.Tally.{nthList}
 use Rattle.controller.specs.Lists.{In, mem}
-use Rattle.controller.specs.Received.{frameOf, standIn, readIn, isNothing, silent, receive, listIn, says, opinionIn, lists}
+use Rattle.controller.specs.Received.{frameOf, standIn, readIn, isNothing, receive, listIn, says, opinionIn, lists}
 use Rattle.controller.specs.State.{view, soundList}
 use Rattle.controller.specs.Work.Lists.{below}
-use Rattle.controller.specs.Work.Received.{noted, receivedBy, Ready, contentUnder, silentBit, bitUnder}
-use Rattle.controller.specs.Work.Alike.{Alike}
+use Rattle.controller.specs.Work.Received.{noted, receivedBy, Ready, bitUnder}
 use Rattle.controller.specs.declared.state.State.{State}
 
 -- a number of a sound list stands at its place
@@ -48,14 +47,6 @@ noted-nothing b k = pick (eqb k noFrame) (eqb k different)
     pick true t = refl
     pick false true = refl
     pick false false = refl
-
--- notes that say the same
-noted-alike : (b : List ℕ) (k l t : ℕ) (o : Option Content) → noted b k ≡ noted b l
-    → cond (eqb k noFrame) o (readIn t (noted b k)) ≡ cond (eqb l noFrame) o (readIn t (noted b l))
-noted-alike b k l t o e =
-    ap (λ (q : Bool). cond q o (readIn t (noted b k))) (sym (noted-nothing b k))
-    ∙ ap (λ (u : Under). cond (isNothing u) o (readIn t u)) e
-    ∙ ap (λ (q : Bool). cond q o (readIn t (noted b l))) (noted-nothing b l)
 
 module _ {s : State} {b f : List ℕ} (ready : Ready s b f) where
   pub ready-listed : listed (s .heard) ≡ (receivedBy s b) .heard
@@ -77,68 +68,85 @@ module _ {s : State} {b f : List ℕ} (ready : Ready s b f) where
   ready-told : (j : ℕ) → j < s .heard .len → noted b (getD f j 0) ≡ under (getD (listed (s .heard)) j 0) (entries b)
   ready-told j h = ap (meaning b) (ready .notes j (omega (arith, h, ready-used))) ∙ found-meaning b (getD (listed (s .heard)) j 0)
 
-  -- one that is heard is silent if the note says so
-  ready-silence : (j : ℕ) → j < s .heard .len → silent (view s) (entries b) (getD (listed (s .heard)) j 0) ≡ eqb (getD f j 0) noFrame
-  ready-silence j h =
+  ready-nothing : (j : ℕ) → j < s .heard .len → isNothing (under (getD (listed (s .heard)) j 0) (entries b)) ≡ eqb (getD f j 0) noFrame
+  ready-nothing j h = ap isNothing (sym (ready-told j h)) ∙ noted-nothing b (getD f j 0)
+
+  -- one that has an entry is not oneself, and its frame is read
+  pub ready-read : (j : ℕ) → j < s .heard .len → eqb (getD f j 0) noFrame ≡ false
+      → (receivedBy s b) .from (getD (listed (s .heard)) j 0) ≡ readIn (s .round) (noted b (getD f j 0))
+  ready-read j h entry =
+      let x = getD (listed (s .heard)) j 0 in
+      let there : isNothing (under x (entries b)) ≡ false = ready-nothing j h ∙ entry in
+      let other : x ≢ s .own = λ e.
+      let nothing : isNothing (under x (entries b)) ≡ true = ap isNothing (under-nothing x (entries b) (λ i. ready .others (Memᴰ·cast (sym e) i))) in
+      true≢false (sym nothing ∙ there) in
+      received-other (view s) (entries b) x other there ∙ ap (readIn (s .round)) (sym (ready-told j h))
+
+  -- one that has none is oneself, or silent
+  pub ready-absent : (j : ℕ) → j < s .heard .len → eqb (getD f j 0) noFrame ≡ true
+      → (receivedBy s b) .from (getD (listed (s .heard)) j 0)
+      ≡ cond (eqb (getD (listed (s .heard)) j 0) (s .own)) (some (frameOf (view s))) (some (standIn (view s)))
+  unfolding receive
+  ready-absent j h absent =
       let x = getD (listed (s .heard)) j 0 in
       let known : mem x (listed (s .heard)) ≡ true = in-mem (getD-in (listed (s .heard)) j (omega (arith, h, ready-used))) in
-      rw known (ap isNothing (sym (ready-told j h)) ∙ noted-nothing b (getD f j 0))
+      rw (known, ready-nothing j h ∙ absent)
 
-  -- the frame received under the number at place j
-  pub ready-content : (j : ℕ) → j < s .heard .len
-      → contentUnder s b (getD (s .heard .at) j 0) (getD f j 0) ≡ (receivedBy s b) .from (getD (listed (s .heard)) j 0)
-  unfolding receive
-  ready-content j h =
-      let k = getD f j 0 in
-      let x = getD (listed (s .heard)) j 0 in
-      ap (λ (y : ℕ). had y (eqb k noFrame) (noted b k)) (sym (getD-take (s .heard .len) (s .heard .at) j 0 h))
-      ∙ ap (λ (q : Bool). had x q (noted b k)) (sym (ready-silence j h))
-      ∙ ap (had x (silent (view s) (entries b) x)) (ready-told j h)
+  -- the list received under the number at place j
+  pub ready-list : (j : ℕ) → j < s .heard .len
+      → cond (eqb (getD f j 0) noFrame) (listIn (some (frameOf (view s)))) (listIn (readIn (s .round) (noted b (getD f j 0))))
+      ≡ nthList (lists (receivedBy s b)) j
+  ready-list j h = pick (eqb (getD f j 0) noFrame) refl ∙ ap (λ (l : List ℕ). listIn ((receivedBy s b) .from (getD l j 0))) ready-listed
     where
-      had : ℕ → Bool → Under → Option Content
-      had y q u = cond (eqb y (s .own)) (some (frameOf (view s))) (cond q (some (standIn (view s))) (readIn (s .round) u))
+      own-list : (t : Bool) → listIn (some (frameOf (view s))) ≡ listIn (cond t (some (frameOf (view s))) (some (standIn (view s))))
+      own-list true = refl
+      own-list false = sym (stand-in-list (view s))
 
-  pub ready-list : (j : ℕ) → j < s .heard .len → listIn (contentUnder s b (getD (s .heard .at) j 0) (getD f j 0)) ≡ nthList (lists (receivedBy s b)) j
-  ready-list j h = ap listIn (ready-content j h) ∙ ap (λ (l : List ℕ). listIn ((receivedBy s b) .from (getD l j 0))) ready-listed
+      pick : (t : Bool) → eqb (getD f j 0) noFrame ≡ t
+          → cond t (listIn (some (frameOf (view s)))) (listIn (readIn (s .round) (noted b (getD f j 0))))
+          ≡ listIn ((receivedBy s b) .from (getD (listed (s .heard)) j 0))
+      pick true e = own-list (eqb (getD (listed (s .heard)) j 0) (s .own)) ∙ sym (ap listIn (ready-absent j h e))
+      pick false e = sym (ap listIn (ready-read j h e))
 
-  -- the same bytes under other numbers than the own one are equal lists
-  pub ready-alike : (j r : ℕ) → Alike (s .own) b (s .heard .at) (s .heard .len) f j r → (i : ℕ) → j ≤ i → i < j + r
-      → nthList (lists (receivedBy s b)) i ≡ nthList (lists (receivedBy s b)) j
-  ready-alike j r a i l u = elim (ℕ-discrete i j) [
-    | yes e ↦ rw e
-    | no d ↦
-        let t = a .same i (omega arith) u in
-        let content : contentUnder s b (getD (s .heard .at) i 0) (getD f i 0) ≡ contentUnder s b (getD (s .heard .at) j 0) (getD f j 0) =
-        rw (ne-eqb (getD (s .heard .at) i 0) (s .own) (t .1), ne-eqb (getD (s .heard .at) j 0) (s .own) (t .0))
-        (noted-alike b (getD f i 0) (getD f j 0) (s .round) (some (standIn (view s))) (t .2)) in
-        sym (ready-list i (omega (arith, a .inside))) ∙ ap listIn content ∙ ready-list j (omega (arith, a .inside))
-  ]
+  -- the bit received under the number at place j; the own frame and what stands in for one that is silent say the same, but for an opinion
+  ready-bit : (j d : ℕ) → j < s .heard .len
+      → d ≡ cond (eqb (getD (listed (s .heard)) j 0) (s .own)) (s .said) (silentBit (view s))
+      → bitUnder (s .round) d b (getD f j 0) ≡ bitIn ((receivedBy s b) .from (getD (listed (s .heard)) j 0))
+  ready-bit j d h absent = pick (eqb (getD f j 0) noFrame) refl
+    where
+      good : Sound (view s)
+      good = rules-give s (ready .sound)
 
-  -- the bit received under a number with the note k on it
-  abbrev pub bitHad : ℕ → ℕ → ℕ
-  bitHad = bitUnder (s .own) (s .round) (s .said) (silentBit (s .round) (s .said)) b
+      own-bit : (t : Bool) → cond t (s .said) (silentBit (view s)) ≡ bitIn (cond t (some (frameOf (view s))) (some (standIn (view s))))
+      own-bit true = sym (frame-bit (view s) good (ready .active))
+      own-bit false = sym (stand-in-bit (view s) good (ready .active))
 
-  -- that under the number at place j, and what it tells
-  ready-bit : (j : ℕ) → j < s .heard .len
-      → bitHad (getD (s .heard .at) j 0) (getD f j 0) ≡ bitIn ((receivedBy s b) .from (getD (listed (s .heard)) j 0))
-  ready-bit j h =
-      bit-under (view s) (rules-give s (ready .sound)) (ready .active) (eqb (getD (s .heard .at) j 0) (s .own)) (eqb (getD f j 0) noFrame)
-      (readIn (s .round) (noted b (getD f j 0)))
-      ∙ ap bitIn (ready-content j h)
+      pick : (t : Bool) → eqb (getD f j 0) noFrame ≡ t
+          → cond t d (bitIn (readIn (s .round) (noted b (getD f j 0)))) ≡ bitIn ((receivedBy s b) .from (getD (listed (s .heard)) j 0))
+      pick true e = absent ∙ own-bit (eqb (getD (listed (s .heard)) j 0) (s .own)) ∙ sym (ap bitIn (ready-absent j h e))
+      pick false e = sym (ap bitIn (ready-read j h e))
 
-  pub ready-says : (j bit : ℕ) → j < s .heard .len → bit < 3
-      → eqb (bitHad (getD (s .heard .at) j 0) (getD f j 0)) bit
+  -- what it tells where it is no opinion
+  pub ready-says : (j bit : ℕ) → j < s .heard .len → bit < 3 → kindOf (s .round) ≢ 5
+      → eqb (bitUnder (s .round) (s .said) b (getD f j 0)) bit
       ≡ says (kindOf (s .round)) bit ((receivedBy s b) .from (getD (listed (s .heard)) j 0))
-  ready-says j bit h l = ap (λ (d : ℕ). eqb d bit) (ready-bit j h) ∙ received-says (view s) (entries b) (getD (listed (s .heard)) j 0) bit l
+  ready-says j bit h l other =
+      ap (λ (d : ℕ). eqb d bit) (ready-bit j (s .said) h (rw (ne-eqb (kindOf (s .round)) 5 other) (pick (eqb (getD (listed (s .heard)) j 0) (s .own)))))
+      ∙ received-says (view s) (entries b) (getD (listed (s .heard)) j 0) bit l
+    where
+      pick : (t : Bool) → s .said ≡ cond t (s .said) (s .said)
+      pick true = refl
+      pick false = refl
 
-  pub ready-opinion : kindOf (s .round) ≡ 5 → (j x : ℕ) → j < s .heard .len → getD (s .heard .at) j 0 ≡ x
+  -- and where it is: the number x stands at place j, and d is what it says if it has no entry
+  pub ready-opinion : kindOf (s .round) ≡ 5 → (j x d : ℕ) → j < s .heard .len → getD (s .heard .at) j 0 ≡ x → d ≡ cond (eqb x (s .own)) (s .said) 2
       → opinionIn ((receivedBy s b) .from x)
-      ≡ cond (leb (bitHad x (getD f j 0)) 1) (bitHad x (getD f j 0)) 2
-  ready-opinion k j x h e =
-      let bit : bitHad x (getD f j 0) ≡ bitIn ((receivedBy s b) .from x) =
-      ap (λ (y : ℕ). bitHad y (getD f j 0)) (sym e) ∙ ready-bit j h
-      ∙ ap (λ (y : ℕ). bitIn ((receivedBy s b) .from y)) (getD-take (s .heard .len) (s .heard .at) j 0 h ∙ e) in
-      received-opinion (view s) (entries b) (rules-give s (ready .sound)) (ready .active) k x ∙ ap (λ (d : ℕ). cond (leb d 1) d 2) (sym bit)
+      ≡ cond (leb (bitUnder (s .round) d b (getD f j 0)) 1) (bitUnder (s .round) d b (getD f j 0)) 2
+  ready-opinion k j x d h e absent =
+      let there : getD (listed (s .heard)) j 0 ≡ x = getD-take (s .heard .len) (s .heard .at) j 0 h ∙ e in
+      let bit : bitUnder (s .round) d b (getD f j 0) ≡ bitIn ((receivedBy s b) .from x) =
+      ready-bit j d h (rw (there, eq-eqb (kindOf (s .round)) 5 k) absent) ∙ ap (λ (y : ℕ). bitIn ((receivedBy s b) .from y)) there in
+      received-opinion (view s) (entries b) (rules-give s (ready .sound)) (ready .active) k x ∙ ap (λ (q : ℕ). cond (leb q 1) q 2) (sym bit)
 
   -- of one that is not heard nothing is received
   pub ready-unheard : (x : ℕ) → mem x (listed (s .heard)) ≡ false → (receivedBy s b) .from x ≡ none

@@ -40,14 +40,16 @@ use Rattle.controller.specs.declared.bit.Turn.{Turn}
 
 -- a tray whose senders are all heard, with the notes on them
 pub ready-found : (s : State) (b f : List ℕ) → soundRules s ≡ true → undecided (view s) ≡ true → wellFormed b ≡ true → ((x : ℕ) → In x (senders (entries b)) → In x (listed (s .heard)))
+    → (¬ In (s .own) (senders (entries b)))
     → ((j : ℕ) → j < length (listed (s .heard)) → foundBy (getD f j 0) ≡ found b (getD (listed (s .heard)) j 0)) → Ready s b f
-ready-found s b f h active packed known notes =
+ready-found s b f h active packed known others notes =
     let heard = rules-give s h .heard in
     record {
       sound = h;
       active = active;
       packed = packed;
       numbered = λ i. omega (arith, heard .positive 0 (known 0 i));
+      others = others;
       heard = heard-known (view s) (entries b) (heard .rises) known;
       notes = notes;
     }

@@ -1,29 +1,23 @@
 -- Laws of the received lists, by the places of those heard: what the tally finds of them in the state and in the tray.
 use Prim.Native.Nat.{ℕ, zero, suc, _+_, _-_, _≤_, _<_}
-use mathlib.Core.Bool.{Bool, true, false, cond, _||_}
+use mathlib.Core.Bool.{true}
 use mathlib.Core.List.{List, [], _∷_, List·Memᴰ·head, List·Memᴰ·tail, List·Memᴰ·not-nil}
 use mathlib.Core.Option.{Option, some, none}
 use mathlib.Core.Path.{_≡_, refl, ap}
 use native.Mathlib.Omega.{arith}
-use lib.Dec.{ltb, eqb}
 use lib.ListN.{length, getD, take, length-append, length-replicate}
-use Rattle.wire.specs.Frame.{Content, writable, kindOf, maxCount}
+use Rattle.wire.specs.Frame.{Content, writable}
 use Rattle.wire.specs.Laws.Frame.{writable-gives, writable-count}
 use Rattle.wire.specs.Limits.{maxNumbers}
-use Rattle.wire.specs.Notes.{noFrame}
 use Rattle.wire.specs.Numbers.{stored, listed}
 use Rattle.wire.specs.Tray.{Entry}
 use Rattle.wire.specs.Words.{Below}
 use Rattle.controller.specs.Lists.{In}
-use Rattle.controller.specs.State.{View, view, undecided, soundRules}
-use Rattle.controller.specs.Fields.{stateOf}
-use Rattle.controller.specs.Received.{ReceivedLists, frameOf, standIn, readIn, receive, listIn, lists}
-use Rattle.controller.specs.Work.Opened.{listUnder}
-use Rattle.controller.specs.Work.Received.{noted, contentUnder}
+use Rattle.controller.specs.State.{View, undecided, soundRules}
+use Rattle.controller.specs.Received.{ReceivedLists, receive, listIn, lists}
 use Rattle.controller.specs.Laws.Lists.{rising-gives}
 use Rattle.controller.specs.Laws.State.{SoundList, Sound, rules-give, rules-stored}
 use Rattle.controller.specs.Laws.Received.{received-allowed}
-use Rattle.controller.specs.declared.state.Fields.{Fields}
 use Rattle.controller.specs.declared.state.State.{State}
 
 -- ---- the received lists, by the places of those heard
@@ -53,21 +47,6 @@ below-take zero l small i = omega (arith, small (length l))
 below-take (suc n) [] small i = small i
 below-take (suc n) (y ∷ l) small zero = small 0
 below-take (suc n) (y ∷ l) small (suc i) = below-take n l (λ j. small (suc j)) i
-
--- ---- the lists by the fields and the echoes alone
-
--- the list received under a number
-pub under-list : (f : Fields) (h c e b : List ℕ) (x i : ℕ) → listUnder f e b x i ≡ listIn (contentUnder (stateOf f h c e) b x i)
-unfolding frameOf standIn
-under-list f h c e b x i = pick (eqb x (f .own)) (eqb i noFrame)
-  where
-    pick : (s t : Bool)
-        → cond (s || t) (cond (ltb 0 (maxCount (kindOf (f .round)))) (listed (record { len = f .echoes; at = e })) [])
-        (listIn (readIn (f .round) (noted b i)))
-        ≡ listIn (cond s (some (frameOf (view (stateOf f h c e)))) (cond t (some (standIn (view (stateOf f h c e)))) (readIn (f .round) (noted b i))))
-    pick true t = refl
-    pick false true = refl
-    pick false false = refl
 
 -- the echoes of a sound state have their 64 places
 pub echoes-sized : (s : State) → soundRules s ≡ true → (s .echoes .len ≤ maxNumbers) × (length (s .echoes .at) ≡ maxNumbers)
