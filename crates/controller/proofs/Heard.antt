@@ -17,6 +17,7 @@ use Rattle.wire.specs.Tray.{Entry, entries}
 use Rattle.wire.specs.declared.frame.Numbers.{Numbers}
 use Rattle.controller.specs.Calls.{Promise}
 use Rattle.controller.specs.Laws.Received.{heard-in}
+use Rattle.controller.specs.Laws.Refusals.{senders-fit}
 use Rattle.controller.specs.Laws.Rules.{withHeard, heard-sound, next-already-heard}
 use Rattle.controller.specs.Laws.State.{Sound, rules-give, rules-heard, rules-stored, rules-test, sound-rules, view-stored}
 use Rattle.controller.specs.First.{roundsAfter}
@@ -32,7 +33,7 @@ use Rattle.controller.specs.Work.Received.{Hears, Ready}
 use Rattle.controller.specs.Work.Calls.{Checked}
 use Rattle.controller.specs.declared.state.Answer.{Answer}
 use Rattle.controller.specs.declared.state.State.{State}
-use Rattle.controller.proofs.Promises.{senders-numbered, tests-left}
+use Rattle.controller.proofs.Promises.{tests-left}
 
 abbrev pub heardState : State → Numbers → State
 heardState s n =
@@ -96,7 +97,7 @@ module _ {s : State} {b : List ℕ} {n : ℕ} (k : Checked s b n) {r : ℕ} {at 
     fits = and-eq-true-iff (sendersFit (view s) (entries b)) (heardFit (view s) (entries b)) .0 (sym hearing-fits ∙ le-leb _ _ few) .1
 
     hearing-sound : soundRules (heardState s all) ≡ true
-    hearing-sound = more-sound s (entries b) all (sound-rules s (k .sound)) list (senders-numbered s b sent) (leb-true _ _ fits)
+    hearing-sound = more-sound s (entries b) all (sound-rules s (k .sound)) list (senders-fit (view s) (entries b) sent .0) (leb-true _ _ fits)
 
     same : (receive (view s) (entries b)) .heard ≡ listed all
     same = sym (ap listed list ∙ listed-stored _)
@@ -106,6 +107,7 @@ module _ {s : State} {b : List ℕ} {n : ℕ} (k : Checked s b n) {r : ℕ} {at 
     hearing-ready =
         ready-found (heardState s all) b f hearing-sound (k .active) (k .packed)
         (λ x i. subst (In x) same (heard-in (view s) (entries b) .1 (inl i)))
+        (senders-fit (view s) (entries b) sent .1)
         (subst (λ (l : List ℕ). (j : ℕ) → j < length l → foundBy (getD f j 0) ≡ found b (getD l j 0)) same (heard .notes few))
 
     -- those heard before are among them, and the record that is moved to beside them is the one that the tray gives

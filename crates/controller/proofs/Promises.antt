@@ -1,5 +1,4 @@
 -- How an answer meets a call's promise.
---     senders-numbered    a tray that passes test 6 has no sender 0
 --     promise-refused     a refusal returns the state that is kept, length 0, and leaves the buffer
 --     promise-left        a refusal in place leaves the fields, the lists' places and the buffer
 --     promise-sent        a call that is not refused returns the state that is made, and sends its frame
@@ -7,18 +6,15 @@
 --                         and holds with the record beside it
 --     tests-left          of a tray that has passed tests 1 to 5, the tests that are left
 use Prim.Native.Nat.{ℕ}
-use mathlib.Core.Bool.{true, false, not, cond, and-eq-true-iff}
+use mathlib.Core.Bool.{false, cond}
 use mathlib.Core.List.{List, []}
 use mathlib.Core.Path.{_≡_, sym, ap, _∙_}
-use borrow.Author.Tests.{not-true, lt-ltb, le-leb, eq-eqb}
+use borrow.Author.Tests.{lt-ltb, le-leb, eq-eqb}
 use lib.Dec.{eqb}
 use Rattle.wire.specs.Limits.{maxFrame, lastRound}
 use Rattle.wire.specs.Tray.{entries, roundOf}
 use Rattle.controller.specs.Fields.{wholeOf, answerOf}
-use Rattle.controller.specs.Lists.{In, mem}
-use Rattle.controller.specs.Received.{senders}
 use Rattle.controller.specs.Refusals.{trayRefusal, sendersFit, heardFit, listsFit}
-use Rattle.controller.specs.Laws.Lists.{mem-out}
 use Rattle.controller.specs.State.{View, view, bitPart, stateFrom, storedState}
 use Rattle.controller.specs.Work.Calls.{Checked, Sends}
 use Rattle.controller.specs.Calls.{Promise}
@@ -50,11 +46,6 @@ promise-worked n v p q s t b r a z e h =
     let none : n ≡ 0 = sym (h .number) ∙ z in
     let made : r .state ≡ storedState v [] = rw none at (h .state) in
     record { number = h .number; state = rw none (ap (withRecord p) made ∙ ap (storedState v) e); written = h .written; output = h .output }
-
-pub senders-numbered : (s : State) (b : List ℕ) → sendersFit (view s) (entries b) ≡ true → ¬ In 0 (senders (entries b))
-senders-numbered s b h =
-    let both = and-eq-true-iff (not (mem 0 (senders (entries b)))) (not (mem (s .own) (senders (entries b)))) .0 h in
-    mem-out (senders (entries b)) (not-true _ (both .0))
 
 pub tests-left : {s : State} {b : List ℕ} {n : ℕ} → Checked s b n
     → trayRefusal s b n ≡ cond (sendersFit (view s) (entries b)) (cond (heardFit (view s) (entries b)) (cond (listsFit (view s) (entries b)) 0 8) 7) 6

@@ -32,11 +32,8 @@ fn king_opinion(
     let king = fields.king;
     let place = place_in(heard, fields.heard, king);
     if has_at(heard, fields.heard, place, king) {
-        let absent = if king == fields.own {
-            fields.said
-        } else {
-            NO_BIT
-        };
+        // Without an entry it is oneself, or silent.
+        let absent = opinion_of(fields, fields.said);
         let bit = received_bit(fields.round, absent, tray, notes[place]);
         if bit <= 1 { bit } else { NO_BIT }
     } else {

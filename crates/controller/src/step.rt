@@ -7,7 +7,7 @@ ghost use Rattle.wire.specs.Frame.{kindOf};
 ghost use Rattle.wire.specs.Limits.{maxNumbers, lastRound};
 ghost use Rattle.wire.specs.Numbers.{stored};
 ghost use Rattle.controller.specs.Fields.{stateOf, stateGiven};
-ghost use Rattle.controller.specs.Work.Received.{Ready, WhereReady};
+ghost use Rattle.controller.specs.Work.Received.{Ready, WhereReady, AnyReady};
 ghost use Rattle.controller.specs.Work.Step.{namedState, Due, MakesFields, MakesGrown, MakesParts, MakesEchoes};
 use crate::bit::bit_taken;
 use crate::bit::proposal;
@@ -61,14 +61,9 @@ fn make_roster(
     next
 }
 
-fn make_propose(
-    fields: Fields,
-    heard: &[u32; MAX_NUMBERS],
-    tray: &[u8],
-    notes: &[u32; MAX_NUMBERS],
-) -> Fields
+fn make_propose(fields: Fields, tray: &[u8], notes: &[u32; MAX_NUMBERS]) -> Fields
     requires { ⌜ (fields .heard ≤ maxNumbers) × (fields .round < lastRound) ⌝ }
-    ensures { λ r. ⌜ WhereReady fields heard tray notes (λ s b. kindOf (s .round + 1) ≡ 4 → MakesFields s b r) ⌝ }
+    ensures { λ r. ⌜ AnyReady fields tray notes (λ s b. kindOf (s .round + 1) ≡ 4 → MakesFields s b r) ⌝ }
 {
     let mut next = fields;
     let counts = count_bits(fields, tray, notes);
@@ -77,14 +72,9 @@ fn make_propose(
     next
 }
 
-fn make_turn(
-    fields: Fields,
-    heard: &[u32; MAX_NUMBERS],
-    tray: &[u8],
-    notes: &[u32; MAX_NUMBERS],
-) -> Fields
+fn make_turn(fields: Fields, tray: &[u8], notes: &[u32; MAX_NUMBERS]) -> Fields
     requires { ⌜ (fields .heard ≤ maxNumbers) × (fields .round < lastRound) × (fields .bit ≤ 1) ⌝ }
-    ensures { λ r. ⌜ WhereReady fields heard tray notes (λ s b. kindOf (s .round + 1) ≡ 5 → MakesFields s b r) ⌝ }
+    ensures { λ r. ⌜ AnyReady fields tray notes (λ s b. kindOf (s .round + 1) ≡ 5 → MakesFields s b r) ⌝ }
 {
     let mut next = fields;
     let counts = count_bits(fields, tray, notes);
@@ -160,13 +150,13 @@ pub(crate) fn step(
     } else if kind == VALUE {
         make_value(fields, heard, candidates, echoes, tray, notes)
     } else if kind == PROPOSE {
-        let made = make_propose(fields, heard, tray, notes);
+        let made = make_propose(fields, tray, notes);
         Made {
             fits: true,
             fields: made,
         }
     } else {
-        let made = make_turn(fields, heard, tray, notes);
+        let made = make_turn(fields, tray, notes);
         Made {
             fits: true,
             fields: made,

@@ -81,12 +81,18 @@ lists-fit v es =
       λ l. both .1 (le-leb _ _ (l .0), le-leb _ _ (l .1)),
     )
 
+-- a tray that passes test 6 has neither 0 nor oneself among its senders
+pub senders-fit : (v : View) (es : List Entry) → sendersFit v es ≡ true → (¬ In 0 (senders es)) × (¬ In (v .own) (senders es))
+senders-fit v es h =
+    let both = and-eq-true-iff (not (mem 0 (senders es))) (not (mem (v .own) (senders es))) .0 h in
+    (mem-out (senders es) (not-true _ (both .0)), mem-out (senders es) (not-true _ (both .1)))
+
 pub tray-accepted : (s : State) (b : List ℕ) (n : ℕ) → trayRefusal s b n ≡ 0 → Fits s b × (maxFrame ≤ n)
 tray-accepted s b n e =
     let es = entries b in
     let passed = test-passed (earlierTests s b n ++ ((listsFit (view s) es, 8) ∷ [])) (omega arith) (sym (tray-refusal-is s b n) ∙ e) in
     let second = and-eq-true-iff (ltb (s .round) lastRound) (undecided (view s)) .0 (passed 1) in
-    let sixth = and-eq-true-iff (not (mem 0 (senders es))) (not (mem (s .own) (senders es))) .0 (passed 5) in
+    let sixth = senders-fit (view s) es (passed 5) in
     let eighth = lists-fit (view s) es .0 (passed 7) in (
       record {
         state = passed 0;
@@ -94,8 +100,8 @@ tray-accepted s b n e =
         active = second .1;
         packed = passed 3;
         round = eqb-true (roundOf b) (s .round) (passed 4);
-        nonzero = mem-out (senders es) (not-true (mem 0 (senders es)) (sixth .0));
-        others = mem-out (senders es) (not-true (mem (s .own) (senders es)) (sixth .1));
+        nonzero = sixth .0;
+        others = sixth .1;
         heard = leb-true (length ((receive (view s) es) .heard)) maxNumbers (passed 6);
         candidates = eighth .0;
         echoes = eighth .1;

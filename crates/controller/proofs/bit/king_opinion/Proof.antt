@@ -8,15 +8,15 @@ use native.Mathlib.Omega.{arith}
 use borrow.Author.Needs.{needs}
 use borrow.Author.Tests.{le-leb, lt-leb}
 use denote.Ref.{now}
-use lib.Dec.{leb}
+use lib.Dec.{leb, eqb}
 use lib.ListN.{getD}
 use Rattle.controller.specs.Bit.{kingOpinion}
 use Rattle.controller.specs.Fields.{stateOf}
-use Rattle.controller.specs.Laws.Work.Ready.{list-place, bitHad, ready-opinion, ready-unheard}
+use Rattle.controller.specs.Laws.Work.Ready.{list-place, ready-opinion, ready-unheard}
 use Rattle.controller.specs.Laws.State.{sound-list-gives}
 use Rattle.controller.specs.Received.{opinionIn}
 use Rattle.controller.specs.State.{view}
-use Rattle.controller.specs.Work.Received.{receivedBy, Ready}
+use Rattle.controller.specs.Work.Received.{receivedBy, Ready, bitUnder}
 use Rattle.controller.specs.declared.state.State.{State}
 use Rattle.wire.specs.Frame.{kindOf}
 use Rattle.wire.specs.Limits.{maxNumbers}
@@ -24,12 +24,12 @@ use Rattle.wire.specs.declared.frame.Numbers.{Numbers}
 use Rattle.controller.proofs.bit.king_opinion.Statement.{statement}
 use Rattle.controller.proofs.bit.king_opinion.Tie as tie
 
--- the king stands at place j of those heard, and d is the bit that is read there
+-- the king stands at place j of those heard, d is the bit that is read there, and a what it says if it has no entry
 module _ {s : State} {b f : List ℕ} (ready : Ready s b f) (turn : kindOf (s .round) ≡ 5) (j d : ℕ)
     (inside : j < s .heard .len) (there : getD (s .heard .at) j 0 ≡ s .king)
-    (read : d ≡ bitHad ready (s .king) (getD f j 0)) where
+    (a : ℕ) (absent : a ≡ cond (eqb (s .king) (s .own)) (s .said) 2) (read : d ≡ bitUnder (s .round) a b (getD f j 0)) where
   opinion-is : kingOpinion (view s) (receivedBy s b) ≡ cond (leb d 1) d 2
-  opinion-is = ready-opinion ready turn j (s .king) inside there ∙ rw (← read)
+  opinion-is = ready-opinion ready turn j (s .king) a inside there absent ∙ rw (← read)
 
 -- what was given, and that the king is heard
 abbrev given : tie.After-has-at → tie.Start
@@ -65,8 +65,8 @@ place-in-requires c κs = c .before .pre
 has-at-requires : tie.Need-has-at-requires
 has-at-requires c κs = (c .before .before .pre, c .place-in .ensures)
 
-silent-bit-requires : tie.Need-silent-bit-requires
-silent-bit-requires c κs = search needs
+opinion-of-requires : tie.Need-opinion-of-requires
+opinion-of-requires c κs = search needs
 
 mul-received-bit : tie.Need-mul-received-bit
 mul-received-bit c = omega (arith, bounded (c .before))
@@ -86,8 +86,7 @@ told : (c : tie.After-received-bit) (x e : List ℕ)
 told c x e ready turn =
     let at = heard c in
     let place = found at in
-    let read = rw (c .before .before .silent-bit .ensures) at (c .received-bit .ensures) in
-    opinion-is ready turn (at .before .before .place-in .result) _ (place .0) (place .1) read
+    opinion-is ready turn (at .before .before .place-in .result) _ (place .0) (place .1) _ (c .before .before .opinion-of .ensures) (c .received-bit .ensures)
 
 returns : tie.Need-returns
 returns c x e ready turn = sym (told (c .before) x e ready turn ∙ rw (le-leb _ 1 (c .if2 .taken)))
@@ -105,7 +104,7 @@ king-opinion-spec =
     (tie.spec
     place-in-requires
     has-at-requires
-    silent-bit-requires
+    opinion-of-requires
     mul-received-bit
     element-copy-out-received-bit
     received-bit-requires

@@ -2,6 +2,7 @@
 use Prim.Native.Nat.{ℕ, _+_, _-_, _≤_, _<_}
 use mathlib.Core.Bool.{Bool, true, false, cond}
 use mathlib.Core.List.{List}
+use mathlib.Core.Logic.{_≢_}
 use mathlib.Core.Path.{_≡_, refl, sym, ap, _∙_}
 use native.Mathlib.Omega.{arith}
 use borrow.Author.Needs.{needs}
@@ -10,10 +11,10 @@ use lib.ListN.{getD, take}
 use lib.Seq.{take-all}
 use Rattle.controller.specs.Fields.{stateOf}
 use Rattle.controller.specs.Laws.Lists.{count-further}
-use Rattle.controller.specs.Laws.Work.Ready.{ready-listed, ready-used, bitHad, ready-says}
+use Rattle.controller.specs.Laws.Work.Ready.{ready-listed, ready-used, ready-says}
 use Rattle.controller.specs.Lists.{countIf}
 use Rattle.controller.specs.Received.{says}
-use Rattle.controller.specs.Work.Received.{receivedBy, Ready}
+use Rattle.controller.specs.Work.Received.{receivedBy, Ready, bitUnder}
 use Rattle.controller.specs.declared.state.State.{State}
 use Rattle.wire.specs.Frame.{kindOf}
 use Rattle.wire.specs.Limits.{maxNumbers}
@@ -31,12 +32,12 @@ total s b bit j = countIf (counted s b bit) (take j (listed (s .heard)))
 
 module _ {s : State} {b f : List ℕ} (ready : Ready s b f) (bit j n : ℕ) (sum : n ≡ total s b bit j) where
   -- one turn: the bit d that is read at place j, counted
-  turn : (d one : ℕ) → bit < 3 → j < s .heard .len
-      → d ≡ bitHad ready (getD (s .heard .at) j 0) (getD f j 0) → one ≡ cond (eqb d bit) 1 0
+  turn : (d one : ℕ) → bit < 3 → j < s .heard .len → kindOf (s .round) ≢ 5
+      → d ≡ bitUnder (s .round) (s .said) b (getD f j 0) → one ≡ cond (eqb d bit) 1 0
       → n + one ≡ total s b bit (j + 1)
-  turn d one l h read asked =
+  turn d one l h other read asked =
       let more : one ≡ cond (counted s b bit (getD (listed (s .heard)) j 0)) 1 0 =
-      asked ∙ ap (λ (t : Bool). cond t 1 0) (ap (λ (i : ℕ). eqb i bit) read ∙ ready-says ready j bit h l) in
+      asked ∙ ap (λ (t : Bool). cond t 1 0) (ap (λ (i : ℕ). eqb i bit) read ∙ ready-says ready j bit h l other) in
       rw (sum, more) (sym (count-further (counted s b bit) (listed (s .heard)) j (omega (arith, h, ready-used ready))))
 
   -- the last turn has counted all of them
@@ -44,15 +45,15 @@ module _ {s : State} {b f : List ℕ} (ready : Ready s b f) (bit j n : ℕ) (sum
   ended h = sum ∙ ap (countIf (counted s b bit)) (take-all j (listed (s .heard)) (omega (arith, h, ready-used ready)) ∙ ready-listed ready)
 
 abbrev Inv-loop : tie.InvT-loop
-Inv-loop fields heard tray notes silent zeros₀ ones₀ j₀ zeros ones j =
+Inv-loop fields tray notes zeros₀ ones₀ j₀ zeros ones j =
     (j ≤ fields .heard)
     × (zeros ≤ j)
     × (ones ≤ j)
-    × ((c e : List ℕ) → Ready (stateOf fields heard c e) tray notes
-    → (zeros ≡ total (stateOf fields heard c e) tray 0 j) × (ones ≡ total (stateOf fields heard c e) tray 1 j))
+    × ((h c e : List ℕ) → Ready (stateOf fields h c e) tray notes → kindOf (fields .round) ≢ 5
+    → (zeros ≡ total (stateOf fields h c e) tray 0 j) × (ones ≡ total (stateOf fields h c e) tray 1 j))
 
 abbrev μ-loop : tie.MeasureT-loop
-μ-loop fields heard tray notes silent zeros₀ ones₀ j₀ zeros ones j = fields .heard - j
+μ-loop fields tray notes zeros₀ ones₀ j₀ zeros ones j = fields .heard - j
 
 one-most : (d bit : ℕ) → cond (eqb d bit) 1 0 ≤ 1
 one-most d bit = pick (eqb d bit)
@@ -63,32 +64,23 @@ one-most d bit = pick (eqb d bit)
 
 -- what was given, and the turn in which a bit is received
 abbrev given : tie.At-loop Inv-loop μ-loop → tie.Start Inv-loop μ-loop
-given c = c .before .before .before
+given c = c .before .before
 
 abbrev in-turn : tie.After-received-bit Inv-loop μ-loop → tie.Then1 Inv-loop μ-loop
-in-turn c = c .before .before .before
+in-turn c = c .before .before
 
 -- a place of the list is one of 64
 inside : (c : tie.Then1 Inv-loop μ-loop) → c .before .before .loop .j < maxNumbers
 inside c = omega (arith, c .if1 .taken, given (c .before .before) .pre)
 
-silent-bit-requires : tie.Need-silent-bit-requires Inv-loop μ-loop
-silent-bit-requires c κs = search needs
-
 loop-holds : tie.Need-loop-holds Inv-loop μ-loop
-loop-holds c = (omega arith, omega arith, omega arith, λ x e ready. (refl, refl))
+loop-holds c = (omega arith, omega arith, omega arith, λ h x e ready other. (refl, refl))
 
 mul-received-bit : tie.Need-mul-received-bit Inv-loop μ-loop
 mul-received-bit c = omega (arith, inside c)
 
 element-copy-out-received-bit : tie.Need-element-copy-out-received-bit Inv-loop μ-loop
 element-copy-out-received-bit c = omega (arith, inside c)
-
-mul-received-bit-2 : tie.Need-mul-received-bit-2 Inv-loop μ-loop
-mul-received-bit-2 c = omega (arith, inside (c .before))
-
-element-copy-out-received-bit-2 : tie.Need-element-copy-out-received-bit-2 Inv-loop μ-loop
-element-copy-out-received-bit-2 c = omega (arith, inside (c .before))
 
 received-bit-requires : tie.Need-received-bit-requires Inv-loop μ-loop
 received-bit-requires c κs = search needs
@@ -120,23 +112,23 @@ loop-again c =
     let at-loop = in-turn (c .before .before) .before .before in
     let v = at-loop .loop in
     let h = in-turn (c .before .before) .if1 .taken in
-    let bit = c .before .before .received-bit in
-    let read = rw (at-loop .before .silent-bit .ensures) at (bit .ensures) in (
+    let bit = c .before .before .received-bit in (
       omega (arith, h),
       omega (arith, v .inv .1, c .before .one-if .ensures, one-most (bit .result) 0),
       omega (arith, v .inv .2, c .one-if2 .ensures, one-most (bit .result) 1),
-      λ x e ready. (
-        turn ready 0 (v .j) (v .zeros) (v .inv .3 x e ready .0) _ _ (omega arith) h read (c .before .one-if .ensures),
-        turn ready 1 (v .j) (v .ones) (v .inv .3 x e ready .1) _ _ (omega arith) h read (c .one-if2 .ensures),
-      ),
+      λ heard x e ready other.
+          let so-far = v .inv .3 heard x e ready other in (
+            turn ready 0 (v .j) (v .zeros) (so-far .0) _ _ (omega arith) h other (bit .ensures) (c .before .one-if .ensures),
+            turn ready 1 (v .j) (v .ones) (so-far .1) _ _ (omega arith) h other (bit .ensures) (c .one-if2 .ensures),
+          ),
     )
 
 returns : tie.Need-returns Inv-loop μ-loop
 returns c =
     let v = c .before .before .loop in (
       (omega (arith, v .inv .0, v .inv .1), omega (arith, v .inv .0, v .inv .2)),
-      λ x e ready.
-          let counts = v .inv .3 x e ready in
+      λ h x e ready other.
+          let counts = v .inv .3 h x e ready other in
           record {
             zeros = ended ready 0 (v .j) (v .zeros) (counts .0) (c .if1 .left);
             ones = ended ready 1 (v .j) (v .ones) (counts .1) (c .if1 .left);
@@ -149,12 +141,9 @@ count-bits-spec =
     (tie.spec
     Inv-loop
     μ-loop
-    silent-bit-requires
     loop-holds
     mul-received-bit
     element-copy-out-received-bit
-    mul-received-bit-2
-    element-copy-out-received-bit-2
     received-bit-requires
     one-if-requires
     add-zeros

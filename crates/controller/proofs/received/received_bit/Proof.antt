@@ -1,4 +1,4 @@
--- `controller::received::received_bit` meets its contract: the tests give `bitUnder` its case.
+-- `controller::received::received_bit` meets its contract: the test gives `bitUnder` its case.
 use borrow.Author.Needs.{needs}
 use borrow.Author.Tests.{eq-eqb, ne-eqb}
 use Rattle.controller.proofs.received.received_bit.Statement.{statement}
@@ -10,14 +10,9 @@ noted-bit-requires c κs = search needs
 returns : tie.Need-returns
 returns c = rw (eq-eqb _ _ (c .if1 .taken))
 
-returns-2 : tie.Need-returns-2
-returns-2 c = rw (ne-eqb _ _ (c .before .if1 .left), eq-eqb _ _ (c .if2 .taken))
-
 -- what the note says looks at the same test
-returns-3 : tie.Need-returns-3
-returns-3 c =
-    let some = ne-eqb _ _ (c .before .if2 .left) in
-    rw (ne-eqb _ _ (c .before .before .if1 .left), some) (rw some at (c .noted-bit .ensures))
+returns-2 : tie.Need-returns-2
+returns-2 c = let there = ne-eqb _ _ (c .before .if1 .left) in rw there (rw there at (c .noted-bit .ensures))
 
 pub received-bit-spec : {M : Type 1} → statement M
-received-bit-spec = tie.close (tie.spec noted-bit-requires returns returns-2 returns-3)
+received-bit-spec = tie.close (tie.spec noted-bit-requires returns returns-2)

@@ -14,13 +14,13 @@ use lib.ListN.{length, getD, set, take, length-append, length-replicate}
 use lib.Seq.{take-suc, take-all, getD-take}
 use Rattle.controller.specs.Fields.{stateOf}
 use Rattle.controller.specs.Laws.Lists.{keep-append}
-use Rattle.controller.specs.Laws.Work.Ready.{ready-listed, ready-used, bitHad, ready-says}
+use Rattle.controller.specs.Laws.Work.Ready.{ready-listed, ready-used, ready-says}
 use Rattle.controller.specs.Laws.Work.Lists.{opened-first, opened-stored, inserted-last}
 use Rattle.controller.specs.Lists.{keep}
 use Rattle.controller.specs.Received.{says}
 use Rattle.controller.specs.Rotation.{roster}
 use Rattle.controller.specs.Work.Lists.{inPlaces}
-use Rattle.controller.specs.Work.Received.{receivedBy, Ready}
+use Rattle.controller.specs.Work.Received.{receivedBy, Ready, bitUnder}
 use Rattle.controller.specs.declared.state.State.{State}
 use Rattle.wire.specs.Frame.{kindOf}
 use Rattle.wire.specs.Laws.Numbers.{listed-stored}
@@ -59,10 +59,10 @@ pushed n l x e h =
 
 -- one turn: the bit d that is read at place j, and the list before it
 module _ {s : State} {b f : List ℕ} (ready : Ready s b f) (first : kindOf (s .round) ≡ 1) (j d : ℕ) (h : j < s .heard .len)
-    (read : d ≡ bitHad ready (getD (s .heard .at) j 0) (getD f j 0)) (n : Numbers) (list : n ≡ stored (senders s b j)) where
+    (read : d ≡ bitUnder (s .round) (s .said) b (getD f j 0)) (n : Numbers) (list : n ≡ stored (senders s b j)) where
   asked : eqb d 2 ≡ sent-init s b (getD (listed (s .heard)) j 0)
   asked =
-      ap (λ (i : ℕ). eqb i 2) read ∙ ready-says ready j 2 h (omega arith)
+      ap (λ (i : ℕ). eqb i 2) read ∙ ready-says ready j 2 h (omega arith) (λ e. omega arith)
       ∙ ap (λ (k : ℕ). says k 2 ((receivedBy s b) .from (getD (listed (s .heard)) j 0))) first
 
   within : j < length (listed (s .heard))
@@ -81,18 +81,18 @@ module _ {s : State} {b f : List ℕ} (ready : Ready s b f) (first : kindOf (s .
   left e = list ∙ ap stored (sym (fails (sent-init s b) (listed (s .heard)) j within (sym asked ∙ ne-eqb d 2 e)))
 
 abbrev Inv-loop : tie.InvT-loop
-Inv-loop fields heard tray notes list₀ silent k₀ j₀ list k j =
+Inv-loop fields heard tray notes list₀ k₀ j₀ list k j =
     (j ≤ fields .heard)
     × (k ≤ j)
     × ((c e : List ℕ) → Ready (stateOf fields heard c e) tray notes → kindOf (fields .round) ≡ 1
     → inPlaces k list ≡ stored (senders (stateOf fields heard c e) tray j))
 
 abbrev μ-loop : tie.MeasureT-loop
-μ-loop fields heard tray notes list₀ silent k₀ j₀ list k j = fields .heard - j
+μ-loop fields heard tray notes list₀ k₀ j₀ list k j = fields .heard - j
 
 -- what was given, from the loop; and the turn's begin, from where its bit was read
 abbrev given : tie.At-loop Inv-loop μ-loop → tie.Start Inv-loop μ-loop
-given c = c .before .before .before
+given c = c .before .before
 
 abbrev turn : tie.After-received-bit Inv-loop μ-loop → tie.Then1 Inv-loop μ-loop
 turn c = c .before .before .before
@@ -101,11 +101,8 @@ turn c = c .before .before .before
 inside : (c : tie.Then1 Inv-loop μ-loop) → c .before .before .loop .j < maxNumbers
 inside c = omega (arith, c .if1 .taken, given (c .before .before) .pre .0)
 
-silent-bit-requires : tie.Need-silent-bit-requires Inv-loop μ-loop
-silent-bit-requires c κs = search needs
-
 loop-holds : tie.Need-loop-holds Inv-loop μ-loop
-loop-holds c = (omega arith, omega arith, λ x e ready first. ap (λ (s : List ℕ). record { len = 0; at = s }) (c .before .before .pre .1))
+loop-holds c = (omega arith, omega arith, λ x e ready first. ap (λ (s : List ℕ). record { len = 0; at = s }) (c .before .pre .1))
 
 mul-x : tie.Need-mul-x Inv-loop μ-loop
 mul-x c = omega (arith, inside c)
@@ -147,7 +144,7 @@ loop-again c =
     let v = begun .before .before .loop in
     let list = inPlaces (v .k) (v .list) in
     let h = begun .if1 .taken in
-    let read = rw (begun .before .before .before .silent-bit .ensures) at (c .before .received-bit .ensures) in
+    let read = c .before .received-bit .ensures in
     elim (c .if2 .came) [
       | inl p ↦ (
         omega (arith, h),
@@ -181,7 +178,6 @@ roster-spec =
     (tie.spec
     Inv-loop
     μ-loop
-    silent-bit-requires
     loop-holds
     mul-x
     element-copy-out-x

@@ -23,8 +23,9 @@ add-next : tie.Need-add-next
 add-next c = omega (arith, counted c .before .before .pre .1)
 
 returns : tie.Need-returns
-returns c = λ w e ready k.
-    let values = rw (kind-before _ 0 (rules-give _ (ready .sound) .early) k) at (counted c .count-bits .ensures .1 w e ready) in
+returns c = λ h w e ready k.
+    let kind = kind-before _ 0 (rules-give _ (ready .sound) .early) k in
+    let values = rw kind at (counted c .count-bits .ensures .1 h w e ready (λ q. omega arith)) in
     propose-made ready (counted c .count-bits .result) _ k values (c .before .proposal .ensures)
 
 pub make-propose-spec : {M : Type 1} → statement M

@@ -1,6 +1,5 @@
 -- `controller::step::make_turn` meets its contract: the turn's bit, strong and said, and all other fields as they were, are the state of `makeTurn`.
 use native.Mathlib.Omega.{arith}
-use denote.Ref.{now}
 use Rattle.controller.specs.Laws.Work.Ready.{ready-size}
 use Rattle.controller.specs.Laws.Rules.{kind-before}
 use Rattle.controller.specs.Laws.State.{rules-give}
@@ -28,10 +27,10 @@ add-next : tie.Need-add-next
 add-next c = omega (arith, (given c) .pre .1)
 
 returns : tie.Need-returns
-returns c = λ w e ready k.
-    let proposals = rw (kind-before _ 1 (rules-give _ (ready .sound) .early) k) at (counted c .count-bits .ensures .1 w e ready) in
-    turn-made ready (c .before .spoken .result) k
-    (c .before .spoken .ensures (now ((given c) .args .heard)) w e _ (ready .active) proposals (ready-size ready))
+returns c = λ h w e ready k.
+    let kind = kind-before _ 1 (rules-give _ (ready .sound) .early) k in
+    let proposals = rw kind at (counted c .count-bits .ensures .1 h w e ready (λ q. omega arith)) in
+    turn-made ready (c .before .spoken .result) k (c .before .spoken .ensures h w e _ (ready .active) proposals (ready-size ready))
 
 pub make-turn-spec : {M : Type 1} → statement M
 make-turn-spec = tie.close (tie.spec count-bits-requires spoken-requires add-next returns)

@@ -62,10 +62,10 @@ returns-2 : tie.Need-returns-2
 returns-2 c = c .make-value .ensures
 
 returns-3 : tie.Need-returns-3
-returns-3 c = let kind = next-kind (c .before .before) in c .make-propose .ensures _ _ ((given kind) .pre .0) (kind-is kind 4 (c .before .if3 .taken))
+returns-3 c = let kind = next-kind (c .before .before) in c .make-propose .ensures _ _ _ ((given kind) .pre .0) (kind-is kind 4 (c .before .if3 .taken))
 
 returns-4 : tie.Need-returns-4
-returns-4 c = c .make-turn .ensures _ _ ((given (next-kind (c .before .before))) .pre .0) (turns (c .before))
+returns-4 c = c .make-turn .ensures _ _ _ ((given (next-kind (c .before .before))) .pre .0) (turns (c .before))
 
 pub step-spec : {M : Type 1} → statement M
 step-spec =
