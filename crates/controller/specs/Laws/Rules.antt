@@ -16,7 +16,7 @@ use Rattle.wire.specs.Found.{under}
 use Rattle.wire.specs.Tray.{Entry}
 use Rattle.controller.specs.Lists.{In, Inside, Rising, mem}
 use Rattle.controller.specs.State.{View, undecided}
-use Rattle.controller.specs.Received.{Received, frameOf, standIn, senders, readIn, isNothing, silent, receive, lists}
+use Rattle.controller.specs.Received.{Received, frameOf, standIn, senders, readIn, silent, receive, lists}
 use Rattle.controller.specs.Rotation.{echoed, joined, candidatesAfter, decides, kingAfter, hearing}
 use Rattle.controller.specs.Bit.{phase, kingOpinion, bitTaken, decidesNow, decisionAfter, valueTwoThirds, proposalThird}
 use Rattle.controller.specs.Bit.{proposalTwoThirds, proposal, bitAdopted, strongAfter, opinion, valueSaid}

@@ -87,7 +87,7 @@ accepted-or-kept k = elim (true-or-false (eqb (k .answer .refusal) 0)) [
 
 -- ---- a list of calls
 
-abbrev pub returned : List TrayCall → List State
+abbrev returned : List TrayCall → List State
 returned ks = map (λ (k : TrayCall). k .answer .state) ks
 
 -- what holds at first and is kept by each call that works holds all along: refused calls drop out

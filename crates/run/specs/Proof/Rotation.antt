@@ -9,7 +9,7 @@
 --     Relayed R x r            if anybody has x as a candidate before phase r, everybody has it after
 --     CommonKing R k r         nobody decides up to phase r, and in it all name k
 -- Phase r makes rounds 3 + 3r, 4 + 3r and 5 + 3r; "before phase r" is before round 3 + 3r is made. The rules are stated for whoever receives, sender or not,
--- and of those at work: under document 01 everybody is, always, and the rules on quiet ones say nothing.
+-- and of those at work: by document 02, "A7. Let decided controllers go quiet", those who have not decided.
 use Prim.Native.Nat.{ℕ, suc, _≤_, _<_}
 use mathlib.Core.Path.{_≡_}
 use mathlib.Core.Bool.{Bool, true, false}
