@@ -174,8 +174,10 @@ received-damaged : (v : View) (new : List ℕ) (es es′ : List Entry) (x : ℕ)
     → ((receive v es′) .from x ≡ (receive v es) .from x) ⊎ ((receive v es′) .from x ≡ none)
 unfolding receive
 received-damaged v new es es′ x void (inl e) = inl (rw e)
-received-damaged v new es es′ x void (inr (inl e)) = rw (e, and-false (mem x (v .rotor .heard)), void) (fewer (eqb x (v .own)) (some (frameOf v)) (hadOf v es x))
-received-damaged v new es es′ x void (inr (inr e)) = rw (e, and-false (mem x (v .rotor .heard))) (fewer (eqb x (v .own)) (some (frameOf v)) (hadOf v es x))
+received-damaged v new es es′ x void (inr (inl e)) =
+    rw (e, and-false (mem x (v .rotor .heard)), void) (fewer (eqb x (v .own)) (some (frameOf v)) (hadOf v es x))
+received-damaged v new es es′ x void (inr (inr e)) =
+    rw (e, and-false (mem x (v .rotor .heard))) (fewer (eqb x (v .own)) (some (frameOf v)) (hadOf v es x))
 
 -- a frame of a well packed tray overwritten by as many bytes that are void in the state's round
 module _ (s : State) (b : List ℕ) (i : ℕ) (new : List ℕ) (packed : wellFormed b ≡ true) (counted : i < entryCount b)

@@ -15,11 +15,11 @@ use Rattle.controller.specs.Examples.{Session, LateJoiner}
 
 pub session-printed : Session
 unfolding kindOf chosenBy saidBy bitFits maxCount roundFits roundOf entryCount wellFormed entries third twoThirds soundRules soundBeside sound frameOf
-    standIn receive firstsAfter roster tally mentioned echoed joined candidatesAfter decides kingAfter bitTaken decisionAfter valueSaid valueTwoThirds proposalThird
-    proposalTwoThirds proposal bitAdopted strongAfter opinion step startRefusal trayRefusal
+    standIn receive firstsAfter roster tally mentioned echoed joined candidatesAfter decides kingAfter bitTaken decisionAfter valueSaid valueTwoThirds
+    proposalThird proposalTwoThirds proposal bitAdopted strongAfter opinion step startRefusal trayRefusal
 session-printed = record { start-accepted = refl; trays-accepted = refl; printed = refl }
 
--- 5 has a bit of its own, and the other two take it
+-- 5 has a bit of its own, and takes that of the other two
 pub late-joiner : LateJoiner 0 1 1 × LateJoiner 1 0 0
 unfolding kindOf chosenBy saidBy bitFits maxCount lengthFits roundFits headFits bodyFits readRefusal content frameBytes roundOf entryCount
     sender wellFormed part entries third twoThirds soundRules soundBeside sound frameOf standIn receive firstsAfter roster tally mentioned echoed joined

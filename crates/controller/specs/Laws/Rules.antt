@@ -294,7 +294,8 @@ heard-sound v es h z short =
       ];
     }
 
-pub next-sound : (v : View) (es : List Entry) → Sound v → undecided v ≡ true → v .round < lastRound → (¬ In 0 (senders es)) → length ((receive v es) .heard) ≤ maxNumbers
+pub next-sound : (v : View) (es : List Entry) → Sound v → undecided v ≡ true → v .round < lastRound → (¬ In 0 (senders es))
+    → length ((receive v es) .heard) ≤ maxNumbers
     → length ((next v es) .rotor .candidates) ≤ maxNumbers → length ((next v es) .rotor .echoes) ≤ maxNumbers → Sound (next v es)
 next-sound v es h u l z few =
     step-sound v (receive v es) h u l (heard-in v es .1 (inr (h .hears-itself))) (heard-sound v es h z few) (received-positive v es h u)

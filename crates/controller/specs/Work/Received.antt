@@ -9,7 +9,7 @@
 --                              none is oneself, and in f a note on each number heard; the own number's, like that of one that is silent, is none
 --     WhereReady f h b t P     P holds of each state with the fields f, where h are those heard, and of the tray b, if it is ready
 --     AnyReady f b t P         the same, whoever is heard
---     bitUnder t d b k         the bit of the frame that the note k is of, read in round t; d where it is of none, 3 where the frame is void or there are several
+--     bitUnder t d b k         the bit of the frame that the note k is of, read in round t; d where it is of none, 3 where it is of a void frame or of several
 --     CountsBits k r n         n has how many of those heard sent each bit in a frame of kind k, where r was received
 --     CountsFew h n            neither count is above h
 --     sentCount f              how many numbers the own frame lists

@@ -161,7 +161,8 @@ module _ (correct : List Controller) (faulty : List ℕ) where
       let f = sent-state c sent in
       let s = f .state in
       let e = f .round in
-      let timely = or-right (ltb (2 + 3 * size) (s .round)) _ (all-pass (stateTest c) (states c) h s (f .listed)) (le-ltb (2 + 3 * size) (s .round) (rw e early)) in
+      let tested = all-pass (stateTest c) (states c) h s (f .listed) in
+      let timely = or-right (ltb (2 + 3 * size) (s .round)) _ tested (le-ltb (2 + 3 * size) (s .round) (rw e early)) in
       let passed = or-right (not (undecided (view s))) _ timely (ap not (f .active)) in
       let (k, j, w) = some-pass (workTest (c .number) (s .round)) (c .trays) passed in
       let (accepted, delivers) = and-eq-true-iff (eqb (k .answer .refusal) 0) _ .0 w in

@@ -39,7 +39,8 @@ use Rattle.controller.specs.declared.bit.Turn.{Turn}
 -- ---- what a step finds
 
 -- a tray whose senders are all heard, with the notes on them
-pub ready-found : (s : State) (b f : List ℕ) → soundRules s ≡ true → undecided (view s) ≡ true → wellFormed b ≡ true → ((x : ℕ) → In x (senders (entries b)) → In x (listed (s .heard)))
+pub ready-found : (s : State) (b f : List ℕ) → soundRules s ≡ true → undecided (view s) ≡ true → wellFormed b ≡ true
+    → ((x : ℕ) → In x (senders (entries b)) → In x (listed (s .heard)))
     → (¬ In (s .own) (senders (entries b)))
     → ((j : ℕ) → j < length (listed (s .heard)) → foundBy (getD f j 0) ≡ found b (getD (listed (s .heard)) j 0)) → Ready s b f
 ready-found s b f h active packed known others notes =
