@@ -22,18 +22,18 @@ use wire::limits::MAX_NUMBERS;
 use wire::limits::NO_BIT;
 use wire::limits::VALUE;
 
-// Whether the unused places are 0, as they are in the stored form.
+// Whether the unused places are 0, as they are in the stored form. They are joined by `|`, so that the loop looks at four at a time.
 fn unused_zero(at: &[u32], len: usize) -> bool
     requires { ⌜ (len ≤ maxNumbers) × (length (now at) ≡ maxNumbers) ⌝ }
     ensures { λ r. ⌜ r ≡ same (before at) ((stored (listed (inPlaces len (before at)))) .at) ⌝ }
 {
-    let mut ok = true;
+    let mut all = 0;
     let mut i = len;
     while i < MAX_NUMBERS {
-        ok = ok & (at[i] == 0);
+        all = all | at[i];
         i += 1;
     }
-    ok
+    all == 0
 }
 
 // Whether the unused places are 0 and the numbers rise: the stored form of a list.

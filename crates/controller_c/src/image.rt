@@ -33,18 +33,18 @@ use controller::state::Fields;
 use wire::limits::MAX_NUMBERS;
 use wire::limits::NUMBER_WIDTH;
 
-// Whether the bytes from `from` to `to` are 0. Every byte is looked at, so that the loop has no way out to wait for.
+// Whether the bytes from `from` to `to` are 0. They are joined by `|`, so that the loop has no way out to wait for.
 fn all_zero(image: &[u8], from: usize, to: usize) -> bool
     requires { ⌜ (from ≤ to) × (to ≤ length (now image)) ⌝ }
     ensures { λ r. ⌜ r ≡ zeros (slice from to (before image)) ⌝ }
 {
-    let mut zero = true;
+    let mut all = 0;
     let mut i = from;
     while i < to {
-        zero = zero & (image[i] == 0);
+        all = all | image[i];
         i += 1;
     }
-    zero
+    all == 0
 }
 
 // ---- from an image to the state in it

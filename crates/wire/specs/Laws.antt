@@ -1,4 +1,5 @@
 -- Laws about the definitions, for the proofs of this crate and of the crates above it.
+pub mod Bits
 pub mod Causes
 pub mod Damage
 pub mod Found
