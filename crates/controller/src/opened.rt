@@ -1,7 +1,6 @@
 // The received lists, opened for the tally: where each lies, how many numbers it has, and how many controllers sent it. The first is the own one, in
 // the state; the others are read where they lie in the tray.
 ghost use mathlib.Core.Bool.{true};
-ghost use mathlib.Core.List.{[]};
 ghost use mathlib.Core.Path.{_≡_};
 ghost use Prim.Native.Nat.{_≤_, _<_};
 ghost use lib.ListN.{length, getD, take};
@@ -9,10 +8,9 @@ ghost use Rattle.wire.specs.Lent.{before, after};
 ghost use Rattle.wire.specs.Frame.{content};
 ghost use Rattle.wire.specs.Limits.{maxNumbers};
 ghost use Rattle.wire.specs.Words.{wordsAt};
-ghost use Rattle.controller.specs.Fields.{stateOf};
 ghost use Rattle.controller.specs.Received.{readIn, listIn};
 ghost use Rattle.controller.specs.Work.Received.{noted};
-ghost use Rattle.controller.specs.Work.Opened.{listUnder, endMark, listFrom, Lies, SpanOf, Openable, OpensAll, AddsTo, Openings, OwnFirst, SpanIn, NumbersIn, startLimit};
+ghost use Rattle.controller.specs.Work.Opened.{endMark, listFrom, Lies, SpanOf, NumbersIn, startLimit, Placeable, PlacesIn, Openable, OpensAll};
 use crate::received::sent_count;
 use crate::state::Fields;
 use wire::found::Found;
@@ -114,7 +112,10 @@ fn place_list(
     starts: &mut [usize],
     counts: &mut [usize],
     len: usize,
-) -> usize {
+) -> usize
+    requires { ⌜ Placeable round (now own) (now tray) (now starts) (now counts) len last slot ⌝ }
+    ensures { λ r. ⌜ PlacesIn round own tray note len starts counts r ⌝ }
+{
     if note == NO_FRAME {
         return 0;
     }
@@ -142,7 +143,10 @@ pub(crate) fn open_lists(
     starts: &mut [usize],
     counts: &mut [usize],
     sent: &mut [usize],
-) -> usize {
+) -> usize
+    requires { ⌜ Openable fields (now own) (now tray) (now notes) (now starts) (now counts) (now sent) ⌝ }
+    ensures { λ r. ⌜ OpensAll fields (before own) (before tray) (before notes) (after starts) (after counts) (after sent) r ⌝ }
+{
     counts[0] = sent_count(fields);
     let mut len = 1;
     let mut last = NO_FRAME;
