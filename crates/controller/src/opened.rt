@@ -101,7 +101,8 @@ pub(crate) fn number_in(
     }
 }
 
-// The place of the list received with a note: that of an open one that is sure to be equal, else `len`, where it is opened.
+// The place of the list received with a note: that of an open one that is sure to be equal, else `len`, where it is opened. `slot` is the place of the list
+// that was received with the note `last`.
 fn place_list(
     round: u32,
     own: &[u32],
@@ -135,6 +136,9 @@ fn place_list(
     len
 }
 
+// Opens the list received with each note, and returns how many are open. A list that is equal to the own one is counted with that one, and so is that of a
+// controller with no entry. Of the others, those whose frames have the bytes of the frame before theirs are counted with it; those with no entry in between
+// do not part them.
 pub(crate) fn open_lists(
     fields: Fields,
     own: &[u32],
@@ -148,23 +152,14 @@ pub(crate) fn open_lists(
     ensures { λ r. ⌜ OpensAll fields (before own) (before tray) (before notes) (after starts) (after counts) (after sent) r ⌝ }
 {
     counts[0] = sent_count(fields);
+    let round = fields.round;
     let mut len = 1;
     let mut last = NO_FRAME;
     let mut slot = 0;
     let mut j = 0;
     while j < fields.heard {
         let note = notes[j];
-        let place = place_list(
-            fields.round,
-            own,
-            tray,
-            note,
-            last,
-            slot,
-            starts,
-            counts,
-            len,
-        );
+        let place = place_list(round, own, tray, note, last, slot, starts, counts, len);
         sent[place] += 1;
         if place == len {
             len += 1;

@@ -11,10 +11,10 @@
 --     listUnder t l b k          the list of the frame that the note k is of, read in round t; the own list l where it is of none
 --     listAt f e b t j           the list received with note j of t; f are the state's fields and e the places of its echoes
 --     having l h x               how many of the lists l 0 to l (h - 1) have x
---     Recalls t w b s n m k j    open list j of the m open ones is the list of the note k
---     Placeable t w b s n m k j  there is room for one list more behind the m open ones, and the note k of open list j is remembered
---     Places w b l m .. r        the list l is one of the m open ones, that at place r, or it is opened behind them, where r is m then; PlacesIn, the same
---                                of lent lists
+--     Recalls t w b s n m k j    open list j, one of m, is the list of the note k
+--     Placeable t w b s n m k j  there is room for one list more behind the m open ones, of which list j is that of the note k
+--     Places w b l m .. r        the list l is the open one at place r, or it is opened there, behind the m open ones; PlacesIn, the same of lent lists and
+--                                the list received with a note
 --     Openable f e b t s n c     what opening finds: a state that is ready for the tray b, and room
 --     OpensAll f e b t s n c m   the m open lists count each number as the lists received with the notes do
 use Prim.Native.Nat.{ℕ, zero, suc, _+_, _*_, _<_, _≤_}
@@ -122,7 +122,6 @@ pub record Appends (b l : List ℕ) (m : ℕ) (s n t k : List ℕ) (r : ℕ) : T
 abbrev pub Places : List ℕ → List ℕ → List ℕ → ℕ → List ℕ → List ℕ → List ℕ → List ℕ → ℕ → Type 0
 Places own b l m s n t k r = Repeats own b l m s n t k r ⊎ Appends b l m s n t k r
 
--- the list received with a note, which goes behind the m open ones or is one of them
 abbrev pub PlacesIn : ℕ → Lent → Lent → ℕ → ℕ → Lent → Lent → ℕ → Type 0
 PlacesIn round own b note m starts counts r =
     let list = listUnder round (openList (before own) (before b) (before starts) (before counts) 0) (before b) note in

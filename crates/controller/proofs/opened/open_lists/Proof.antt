@@ -15,11 +15,11 @@ use Rattle.controller.proofs.opened.open_lists.Statement.{statement}
 use Rattle.controller.proofs.opened.open_lists.Tie as tie
 
 abbrev Inv-loop : tie.InvT-loop
-Inv-loop fields own tray notes starts₀ counts₀ sent₀ len₀ last₀ slot₀ j₀ starts counts sent len last slot j =
+Inv-loop fields own tray notes starts₀ counts₀ sent₀ round len₀ last₀ slot₀ j₀ starts counts sent len last slot j =
     (j ≤ fields .heard) × Opening fields own tray notes starts counts sent len last slot j
 
 abbrev μ-loop : tie.MeasureT-loop
-μ-loop fields own tray notes starts₀ counts₀ sent₀ len₀ last₀ slot₀ j₀ starts counts sent len last slot j = fields .heard - j
+μ-loop fields own tray notes starts₀ counts₀ sent₀ round len₀ last₀ slot₀ j₀ starts counts sent len last slot j = fields .heard - j
 
 -- the lent tray, and a turn in which the place of a list was asked
 abbrev lent : tie.After-sent-count Inv-loop μ-loop → tie.After-shared-slice-known2 Inv-loop μ-loop
@@ -100,14 +100,15 @@ loop-again c =
     let a = start .args in
     let r = at .place-list .result in
     let note = getD (now (a .notes)) (v .j) 0 in
+    let sound = under-sound (start .pre .ready) (v .j) (in-turn .if1 .taken) in
     let bytes : Below 256 (now (a .tray)) = λ i. let h = lent (at-loop at .before) .shared-slice-known2 .given i in omega arith in
-    let len = c .before .if2 .len in
-    let longer : ((r ≡ v .len) × (len ≡ v .len + 1)) ⊎ ((r ≢ v .len) × (len ≡ v .len)) =
+    let len = v .len in
+    let longer : ((r ≡ len) × (c .before .if2 .len ≡ len + 1)) ⊎ ((r ≢ len) × (c .before .if2 .len ≡ len)) =
     elim (c .before .if2 .came) [ inl e ↦ inl (e .0 .taken, e .1) | inr e ↦ inr (e .0 .left, e .1) ] in
     let recalled : ((c .if3 .last ≡ note) × (c .if3 .slot ≡ r)) ⊎ ((c .if3 .last ≡ v .last) × (c .if3 .slot ≡ v .slot)) =
     elim (c .if3 .came) [ inl e ↦ inl (e .1, e .2) | inr e ↦ inr (e .1, e .2) ] in (
       omega (arith, in-turn .if1 .taken),
-      opening-more (v .inv .1) (place-fits in-turn) (at .place-list .ensures) bytes (under-sound (start .pre .ready) (v .j) (in-turn .if1 .taken)) longer recalled,
+      opening-more (v .inv .1) (place-fits in-turn) (at .place-list .ensures) bytes sound longer recalled,
     )
 
 same-length : tie.Need-same-length Inv-loop μ-loop

@@ -1,5 +1,5 @@
--- `controller::opened::place_list` meets its contract: of none the own list is received, which is open; frames with the same bytes have the same list; and a
--- list with the own numbers is the own one. Any other is opened behind the open ones.
+-- `controller::opened::place_list` meets its contract: with no frame the own list is received, which is open; frames with the same bytes have the same list;
+-- and a list with the own numbers is the own one. Any other is opened behind the open ones.
 use Prim.Native.Nat.{ℕ}
 use mathlib.Core.Bool.{Bool, true, cond, true≢false}
 use mathlib.Core.List.{List}
@@ -32,17 +32,17 @@ module _ (round : ℕ) (l b : List ℕ) where
       ∙ ap (λ (u : Under). listIn (readIn round u)) (sym (same-meaning b (foundBy j) (foundBy k) same))
       ∙ sym (read-under j frame)
 
--- what was given, where there is a frame, and where its list lies
+-- what was given, and the way to where a frame's list was found
 abbrev given : tie.Else1 → tie.Start
 given c = c .before .before .before .before .before
 
 abbrev framed : tie.After-list-of → tie.Else1
 framed c = c .before .before .before
 
--- the list that is received
 abbrev start : tie.After-list-of → tie.Start
 start c = given (framed c)
 
+-- the list that is received is the frame's
 list-read : (c : tie.After-list-of)
     → let a = start c .args in
     listUnder (a .round) (take (getD (now (a .counts)) 0 0) (now (a .own))) (now (a .tray)) (a .note)
@@ -118,11 +118,12 @@ same-length-2 c = search needs
 returns-4 : tie.Need-returns-4
 returns-4 c =
     let found = c .before .before in
-    let list = found .list-of in
+    let b = now (start found .args .tray) in
+    let span = found .list-of .result in
     inr (record {
-      start = list .result .start;
-      count = list .result .count;
-      span = subst (λ (l : List ℕ). SpanOf (now (start found .args .tray)) l (list .result .start) (list .result .count)) (sym (list-read found)) (list .ensures);
+      start = span .start;
+      count = span .count;
+      span = subst (λ (l : List ℕ). SpanOf b l (span .start) (span .count)) (sym (list-read found)) (found .list-of .ensures);
       starts = refl;
       counts = refl;
       last = refl;

@@ -24,9 +24,8 @@ use Rattle.controller.specs.Received.{frameOf, listIn, lists}
 use Rattle.controller.specs.Rotation.{tally}
 use Rattle.controller.specs.State.{view}
 use Rattle.controller.specs.Work.Received.{receivedBy, Ready, sentCount}
-use Rattle.controller.specs.Work.Opened.{
-  total, endMark, maxLists, SpanOf, listFrom, openList, Lies, Opens, weighed, listUnder, listAt, having, Recalls, Placeable, Places, Openable,
-}
+use Rattle.controller.specs.Work.Opened.{total, endMark, maxLists, SpanOf, listFrom, openList, Lies, Opens, weighed}
+use Rattle.controller.specs.Work.Opened.{listUnder, listAt, having, Recalls, Placeable, Places, Openable}
 use Rattle.controller.specs.Laws.State.{SoundList, rules-give}
 use Rattle.controller.specs.Laws.Work.Ready.{ready-list, ready-size}
 use Rattle.controller.specs.Laws.Work.Tally.{nthList, list-at-sound, below-in, below-take, echoes-sized}
@@ -34,7 +33,7 @@ use Rattle.controller.specs.Laws.Work.Total.{total-same, total-grows, to
 use Rattle.controller.specs.declared.state.Fields.{Fields}
 use Rattle.controller.specs.declared.state.State.{State}
 
--- what nobody sent counts nothing
+-- what weighs nothing counts for nothing
 nothing : (t : Bool) (k : ℕ) → k ≡ 0 → cond t k 0 ≡ 0
 nothing true k e = e
 nothing false k e = refl
@@ -79,7 +78,7 @@ module _ {f : Fields} {h c e b t : List ℕ} (ready : Ready (stateOf f h c e) b 
 
 -- ---- one list more
 
--- what placing the list l makes of the open lists, before it is counted: m lists are open then, and it is the one at place r
+-- what placing the list l makes of the m open lists, before it is counted: p are open then, and it is the one at place r
 record Placed (own b l s n w : List ℕ) (m : ℕ) (t k : List ℕ) (p r : ℕ) : Type 0 where
   opens : Opens own b t k w p
   one : r < p
@@ -171,7 +170,9 @@ module _ {own b s n w : List ℕ} {m : ℕ} (g : Opens own b s n w m) where
                       (λ j h. rw (kept s j start h, kept n j count h) (g .lies j h))
                       (rw (getD-set-same s m start 0 (omega (arith, g .starts)), getD-set-same n m count 0 (omega (arith, g .counts))) lies-last);
                   rises =
-                      each (λ j. Rising (openedList j)) (λ j h. subst Rising (sym (list-kept j h)) (g .rises j h)) (subst Rising (sym list-last) (sound .rises));
+                      each (λ j. Rising (openedList j))
+                      (λ j h. subst Rising (sym (list-kept j h)) (g .rises j h))
+                      (subst Rising (sym list-last) (sound .rises));
                   fit =
                       each (λ j. (y : ℕ) → In y (openedList j) → (0 < y) × (y < endMark))
                       (λ j h y i. g .fit j h y (subst (In y) (list-kept j h) i))
@@ -229,7 +230,7 @@ module _ {own b s n w : List ℕ} {m : ℕ} (g : Opens own b s n w m) (r : ℕ) 
 
 -- ---- the received lists, opened one by one
 
--- the lists of the first j notes are open, and each counts as often as they have it
+-- the lists of the first j notes are open, and the open ones count each number as those do
 pub record Opening (f : Fields) (own b t s n w : List ℕ) (m last slot j : ℕ) : Type 0 where
   pub opens : Opens own b s n w m
   pub mine : getD n 0 0 ≡ sentCount f
@@ -297,7 +298,8 @@ module _ {f : Fields} {e b t s n w : List ℕ} (o : Openable f e b t s n w) wher
         recalls = record { one = omega arith; same = refl };
       }
 
-module _ {f : Fields} {own b t s n w : List ℕ} {m last slot j : ℕ} (g : Opening f own b t s n w m last slot j) (more : j < maxNumbers) where
+-- then the list of note j is placed and counted
+module _ {f : Fields} {own b t s n w : List ℕ} {m last slot j : ℕ} (g : Opening f own b t s n w m last slot j) (inside : j < maxNumbers) where
   pub opening-placeable : maxNumbers ≤ length own → sentCount f ≤ maxNumbers → Placeable (f .round) own b s n m last slot
   opening-placeable whole short =
       record {
@@ -309,7 +311,7 @@ module _ {f : Fields} {own b t s n w : List ℕ} {m last slot j : ℕ} (g : Open
         recalls = g .recalls;
       }
 
-  module _ {t' k' : List ℕ} {r : ℕ} (places : Places own b (listUnder (f .round) (openList own b s n 0) b (getD t j 0)) m s n t' k' r) where
+  module _ {s′ n′ : List ℕ} {r : ℕ} (places : Places own b (listUnder (f .round) (openList own b s n 0) b (getD t j 0)) m s n s′ n′ r) where
     -- the place lies among the open ones or right behind them, and a count there is no large number
     pub opening-place : (r < maxLists) × (getD w r 0 ≤ maxNumbers)
     opening-place = elim places [
@@ -317,28 +319,30 @@ module _ {f : Fields} {own b t s n w : List ℕ} {m last slot j : ℕ} (g : Open
       | inr a ↦ (omega (arith, a .last, g .few), omega (arith, g .fresh r (omega (arith, a .last)) (omega (arith, a .last, g .few))))
     ]
 
-    -- the list is counted at its place
-    module _ {p last' slot' : ℕ} (bytes : Below 256 b) (sound : SoundList (listAt f own b t j))
+    -- the lists are one longer if the place is behind them, and either this note is remembered or still the last
+    module _ {p last′ slot′ : ℕ} (bytes : Below 256 b) (sound : SoundList (listAt f own b t j))
         (longer : ((r ≡ m) × (p ≡ m + 1)) ⊎ ((r ≢ m) × (p ≡ m)))
-        (recalled : ((last' ≡ getD t j 0) × (slot' ≡ r)) ⊎ ((last' ≡ last) × (slot' ≡ slot)))
+        (recalled : ((last′ ≡ getD t j 0) × (slot′ ≡ r)) ⊎ ((last′ ≡ last) × (slot′ ≡ slot)))
       where
         list : listUnder (f .round) (openList own b s n 0) b (getD t j 0) ≡ listAt f own b t j
         list = ap (λ (k : ℕ). listUnder (f .round) (take k own) b (getD t j 0)) (g .mine)
 
-        placed : Placed own b (listUnder (f .round) (openList own b s n 0) b (getD t j 0)) s n w m t' k' p r
+        placed : Placed own b (listUnder (f .round) (openList own b s n 0) b (getD t j 0)) s n w m s′ n′ p r
         placed = elim places [
           | inl a ↦ elim longer [
             | inl l ↦ absurd (omega (arith, a .one, l .0))
             | inr l ↦ rw (a .starts, a .counts, l .1) (repeated (g .opens) (a .one) (a .same))
           ]
           | inr a ↦ elim longer [
-            | inl l ↦ rw (a .starts, a .counts, l .1, a .last)
-                (appended (g .opens) (omega (arith, g .few)) (g .fresh m (omega arith) (omega (arith, g .few))) (a .span) bytes (subst SoundList (sym list) sound))
+            | inl l ↦
+                let room : m < maxLists = omega (arith, g .few) in
+                rw (a .starts, a .counts, l .1, a .last)
+                (appended (g .opens) room (g .fresh m (omega arith) room) (a .span) bytes (subst SoundList (sym list) sound))
             | inr l ↦ absurd (l .0 (a .last))
           ]
         ]
 
-        recalls-on : Recalls (f .round) own b t' k' p last' slot'
+        recalls-on : Recalls (f .round) own b s′ n′ p last′ slot′
         recalls-on =
             let own-kept = placed .kept 0 (g .opens .some) in
             elim recalled [
@@ -350,7 +354,7 @@ module _ {f : Fields} {own b t s n w : List ℕ} {m last slot j : ℕ} (g : Open
                   })
             ]
 
-        pub opening-more : Opening f own b t t' k' (set w r (getD w r 0 + 1)) p last' slot' (j + 1)
+        pub opening-more : Opening f own b t s′ n′ (set w r (getD w r 0 + 1)) p last′ slot′ (j + 1)
         opening-more =
             record {
               opens = more-opens (placed .opens) r (placed .one) (omega (arith, placed .weight, g .weight));
