@@ -4,14 +4,13 @@ use mathlib.Core.Path.{_≡_, refl, sym, ap, _∙_, subst}
 use mathlib.Core.Bool.{Bool, true, false, not, cond, true≢false, and-eq-true-iff}
 use mathlib.Core.Logic.{_⊎_, inl, inr, _≢_, _↔_}
 use mathlib.Core.List.{List, [], _∷_, _++_, List·Memᴰ·head, List·Memᴰ·tail, List·Memᴰ·cases-cons, List·Memᴰ·not-nil, Memᴰ·cast, Memᴰ·append-left}
-use native.Mathlib.Nat.{add-zero}
 use native.Mathlib.Numerals.{add-one}
 use native.Mathlib.Omega.{arith}
 use native.Mathlib.Decide.{ℕ-discrete}
 use borrow.Author.Tests.{eqb-true, eqb-false, ltb-true, ltb-false, eq-eqb, lt-ltb, le-ltb}
 use lib.Dec.{eqb, ltb}
-use lib.ListN.{length, getD, take, drop}
-use lib.Seq.{take-suc, drop-cons}
+use lib.ListN.{length, getD, take}
+use lib.Seq.{take-suc}
 use Rattle.wire.specs.Numbers.{rising}
 use Rattle.controller.specs.Lists.{In, Inside, mem, countIf, keep, insert, insertAll, NoRepeats, Rising}
 
@@ -101,20 +100,6 @@ count-all f (x ∷ l) every = rw (every x (List·Memᴰ·head refl)) (ap suc (co
 
 pub count-none : (f : ℕ → Bool) (l : List ℕ) → ((x : ℕ) → In x l → f x ≡ false) → countIf f l ≡ 0
 count-none f l no-one = omega (arith, count-split f l, count-all (λ x. not (f x)) l (λ x i. ap not (no-one x i)))
-
--- c places one behind the other whose tests are all alike
-pub count-run : (f : ℕ → Bool) (l : List ℕ) (b : Bool) (c j : ℕ) → j + c ≤ length l → ((i : ℕ) → j ≤ i → i < j + c → f (getD l i 0) ≡ b)
-    → countIf f (drop j l) ≡ cond b c 0 + countIf f (drop (j + c) l)
-count-run f l true zero j h alike = rw add-zero (omega arith)
-count-run f l false zero j h alike = rw add-zero (omega arith)
-count-run f l true (suc c) j h alike =
-    let e : j + suc c ≡ suc j + c = omega arith in
-    let rest = count-run f l true c (suc j) (omega arith) (λ i a b. alike i (omega arith) (omega arith)) in
-    rw (drop-cons l j 0 (omega arith), alike j (omega arith) (omega arith), e) (omega (arith, rest))
-count-run f l false (suc c) j h alike =
-    let e : j + suc c ≡ suc j + c = omega arith in
-    let rest = count-run f l false c (suc j) (omega arith) (λ i a b. alike i (omega arith) (omega arith)) in
-    rw (drop-cons l j 0 (omega arith), alike j (omega arith) (omega arith), e) (omega (arith, rest))
 
 pub count-some : (f : ℕ → Bool) (l : List ℕ) → 0 < countIf f l → (x : ℕ) × In x l × (f x ≡ true)
 count-some f [] h = absurd (omega arith)

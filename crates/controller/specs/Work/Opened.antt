@@ -8,35 +8,31 @@
 --     Lies w b j o n             such a list can be read
 --     Opens w b s n c m          what is known of the m open lists, each sent by as many controllers as c says: they rise, and can be read
 --     weighed w b s n c m x      how many sent one of them that has x
---     Openings w s n c m k       there is room to open a list that k controllers sent behind the m open ones
---     Adds w b l k m .. r        the list l, which k controllers sent, is counted with the own one, or opened behind the m open ones; r are open
---                                then; AddsTo, the same of lent lists
---     OwnFirst f n               the own list comes first, n has how many numbers it has
---     listUnder f e b k          the list of the frame that the note k is of, or the own one where it is of none; f are the state's fields and e the places
---                                of its echoes
---     Openable f h e b t ..      what opening finds: a state that is ready for the tray b, and room
---     OpensAll v b s n c m       the m open lists count each number as the lists that the state v receives do
+--     listUnder t l b k          the list of the frame that the note k is of, read in round t; the own list l where it is of none
+--     listAt f e b t j           the list received with note j of t; f are the state's fields and e the places of its echoes
+--     having l h x               how many of the lists l 0 to l (h - 1) have x
+--     Recalls t w b s n m k j    open list j, one of m, is the list of the note k
+--     Placeable t w b s n m k j  there is room for one list more behind the m open ones, of which list j is that of the note k
+--     Places w b l m .. r        the list l is the open one at place r, or it is opened there, behind the m open ones; PlacesIn, the same of lent lists and
+--                                the list received with a note
+--     Openable f e b t s n c     what opening finds: a state that is ready for the tray b, and room
+--     OpensAll f e b t s n c m   the m open lists count each number as the lists received with the notes do
 use Prim.Native.Nat.{ℕ, zero, suc, _+_, _*_, _<_, _≤_}
 use mathlib.Core.Bool.{cond}
-use mathlib.Core.List.{List, []}
+use mathlib.Core.List.{List}
 use mathlib.Core.Path.{_≡_}
 use mathlib.Core.Logic.{_⊎_}
-use lib.Dec.{ltb, eqb}
+use lib.Dec.{eqb}
 use lib.ListN.{length, getD, take, set}
 use Rattle.wire.specs.Lent.{before, after}
 use Rattle.wire.specs.Limits.{maxNumbers}
-use Rattle.wire.specs.Numbers.{listed}
-use Rattle.wire.specs.Frame.{kindOf, maxCount}
 use Rattle.wire.specs.Notes.{noFrame}
 use Rattle.wire.specs.Words.{wordsAt}
 use Rattle.controller.specs.Lists.{In, mem, Rising}
-use Rattle.controller.specs.Received.{readIn, listIn, lists}
+use Rattle.controller.specs.Received.{readIn, listIn}
 use Rattle.controller.specs.Fields.{Lent, stateOf}
-use Rattle.controller.specs.Rotation.{tally}
-use Rattle.controller.specs.Work.Received.{noted, receivedBy, Ready, sentCount}
-use Rattle.controller.specs.declared.opened.Span.{Span}
+use Rattle.controller.specs.Work.Received.{noted, Ready, sentCount}
 use Rattle.controller.specs.declared.state.Fields.{Fields}
-use Rattle.controller.specs.declared.state.State.{State}
 
 abbrev pub total : (ℕ → ℕ) → ℕ → ℕ
 total f zero = 0
@@ -61,9 +57,6 @@ pub record SpanOf (b l : List ℕ) (start count : ℕ) : Type 0 where
   pub is : wordsAt b start count ≡ l
   pub low : start < startLimit
   pub inside : NumbersIn b start count
-
-abbrev pub SpanIn : List ℕ → Span → Type 0
-SpanIn b l = SpanOf b (wordsAt b (l .start) (l .count)) (l .start) (l .count)
 
 abbrev pub listFrom : List ℕ → List ℕ → ℕ → ℕ → ℕ → List ℕ
 listFrom own b j start count = cond (eqb j 0) (take count own) (wordsAt b start count)
@@ -91,56 +84,59 @@ pub record Opens (own b s n w : List ℕ) (m : ℕ) : Type 0 where
 abbrev pub weighed : List ℕ → List ℕ → List ℕ → List ℕ → List ℕ → ℕ → ℕ → ℕ
 weighed own b starts counts weights m x = total (λ (j : ℕ). cond (mem x (openList own b starts counts j)) (getD weights j 0) 0) m
 
-pub record Appends (b l : List ℕ) (weight m : ℕ) (s n w t k u : List ℕ) (r : ℕ) : Type 0 where
+abbrev pub listUnder : ℕ → List ℕ → List ℕ → ℕ → List ℕ
+listUnder round own b k = cond (eqb k noFrame) own (listIn (readIn round (noted b k)))
+
+abbrev pub listAt : Fields → List ℕ → List ℕ → List ℕ → ℕ → List ℕ
+listAt f e b t j = listUnder (f .round) (take (sentCount f) e) b (getD t j 0)
+
+abbrev pub having : (ℕ → List ℕ) → ℕ → ℕ → ℕ
+having l h x = total (λ (j : ℕ). cond (mem x (l j)) 1 0) h
+
+pub record Recalls (round : ℕ) (own b s n : List ℕ) (m last slot : ℕ) : Type 0 where
+  pub one : slot < m
+  pub same : openList own b s n slot ≡ listUnder round (openList own b s n 0) b last
+
+pub record Placeable (round : ℕ) (own b s n : List ℕ) (m last slot : ℕ) : Type 0 where
+  pub free : m < maxLists
+  pub starts : length s ≡ maxLists
+  pub counts : length n ≡ maxLists
+  pub short : getD n 0 0 ≤ maxNumbers
+  pub whole : maxNumbers ≤ length own
+  pub recalls : Recalls round own b s n m last slot
+
+pub record Repeats (own b l : List ℕ) (m : ℕ) (s n t k : List ℕ) (r : ℕ) : Type 0 where
+  pub one : r < m
+  pub same : l ≡ openList own b s n r
+  pub starts : t ≡ s
+  pub counts : k ≡ n
+
+pub record Appends (b l : List ℕ) (m : ℕ) (s n t k : List ℕ) (r : ℕ) : Type 0 where
   pub start : ℕ
   pub count : ℕ
   pub span : SpanOf b l start count
   pub starts : t ≡ set s m start
   pub counts : k ≡ set n m count
-  pub weights : u ≡ set w m weight
-  pub more : r ≡ m + 1
+  pub last : r ≡ m
 
-pub record Repeats (own b l : List ℕ) (weight m : ℕ) (s n w t k u : List ℕ) (r : ℕ) : Type 0 where
-  pub same : l ≡ openList own b s n 0
-  pub starts : t ≡ s
-  pub counts : k ≡ n
-  pub weights : u ≡ set w 0 (getD w 0 0 + weight)
-  pub more : r ≡ m
+abbrev pub Places : List ℕ → List ℕ → List ℕ → ℕ → List ℕ → List ℕ → List ℕ → List ℕ → ℕ → Type 0
+Places own b l m s n t k r = Repeats own b l m s n t k r ⊎ Appends b l m s n t k r
 
--- room for one list more behind the m open ones, which w controllers sent
-pub record Openings (own s n c : List ℕ) (m w : ℕ) : Type 0 where
-  pub free : m < maxLists
-  pub starts : length s ≡ maxLists
-  pub counts : length n ≡ maxLists
-  pub sent : length c ≡ maxLists
-  pub light : getD c 0 0 ≤ maxNumbers
-  pub weight : w ≤ maxNumbers
-  pub whole : maxNumbers ≤ length own
+abbrev pub PlacesIn : ℕ → Lent → Lent → ℕ → ℕ → Lent → Lent → ℕ → Type 0
+PlacesIn round own b note m starts counts r =
+    let list = listUnder round (openList (before own) (before b) (before starts) (before counts) 0) (before b) note in
+    Places (before own) (before b) list m (before starts) (before counts) (after starts) (after counts) r
 
-abbrev pub Adds : List ℕ → List ℕ → List ℕ → ℕ → ℕ → List ℕ → List ℕ → List ℕ → List ℕ → List ℕ → List ℕ → ℕ → Type 0
-Adds own b l weight m s n w t k u r = Repeats own b l weight m s n w t k u r ⊎ Appends b l weight m s n w t k u r
-
-abbrev pub AddsTo : Lent → Lent → List ℕ → ℕ → ℕ → Lent → Lent → Lent → ℕ → Type 0
-AddsTo own b l weight m starts counts sent r =
-    Adds (before own) (before b) l weight m (before starts) (before counts) (before sent) (after starts) (after counts) (after sent) r
-
-abbrev pub OwnFirst : Fields → List ℕ → Type 0
-OwnFirst f n = (getD n 0 0 ≡ sentCount f) × (sentCount f ≤ maxNumbers)
-
-abbrev pub listUnder : Fields → List ℕ → List ℕ → ℕ → List ℕ
-listUnder f e b k =
-    cond (eqb k noFrame) (cond (ltb 0 (maxCount (kindOf (f .round)))) (listed (record { len = f .echoes; at = e })) [])
-    (listIn (readIn (f .round) (noted b k)))
-
-pub record Openable (f : Fields) (h e b t s n w : List ℕ) : Type 0 where
+pub record Openable (f : Fields) (e b t s n w : List ℕ) : Type 0 where
+  pub heard : List ℕ
   pub candidates : List ℕ
-  pub ready : Ready (stateOf f h candidates e) b t
+  pub ready : Ready (stateOf f heard candidates e) b t
   pub starts : length s ≡ maxLists
   pub counts : length n ≡ maxLists
   pub weights : length w ≡ maxLists
   pub first : getD s 0 0 ≡ 0
-  pub fresh : getD w 0 0 ≡ 0
+  pub fresh : (j : ℕ) → j < maxLists → getD w j 0 ≡ 0
 
-pub record OpensAll (v : State) (b s n w : List ℕ) (m : ℕ) : Type 0 where
-  pub opens : Opens (v .echoes .at) b s n w m
-  pub counted : (x : ℕ) → weighed (v .echoes .at) b s n w m x ≡ tally (lists (receivedBy v b)) x
+pub record OpensAll (f : Fields) (e b t s n w : List ℕ) (m : ℕ) : Type 0 where
+  pub opens : Opens e b s n w m
+  pub counted : (x : ℕ) → weighed e b s n w m x ≡ having (listAt f e b t) (f .heard) x

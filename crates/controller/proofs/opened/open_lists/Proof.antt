@@ -1,80 +1,50 @@
--- `controller::opened::open_lists` meets its contract: the lists gone through are open or counted with an open one, and count with those left as all do.
-use Prim.Native.Nat.{_+_, _-_, _≤_, _<_}
-use mathlib.Core.List.{[]}
-use mathlib.Core.Path.{_≡_, sym, _∙_}
+-- `controller::opened::open_lists` meets its contract: the lists of the notes gone through are open, and the open ones count each number as those do.
+use Prim.Native.Nat.{ℕ, _+_, _-_, _≤_, _<_}
+use mathlib.Core.Logic.{_⊎_, inl, inr, _≢_}
+use mathlib.Core.Path.{_≡_, ap, _∙_}
 use native.Mathlib.Omega.{arith}
 use borrow.Author.Needs.{needs}
 use denote.Ref.{now}
 use lib.ListN.{getD}
-use lib.Seq.{getD-set-same}
 use Rattle.wire.specs.Limits.{maxNumbers}
-use Rattle.wire.specs.Tray.{entries}
 use Rattle.wire.specs.Words.{Below}
-use Rattle.controller.specs.Fields.{stateOf}
-use Rattle.controller.specs.Laws.Work.Opened.{Opening, sent-few, own-sized, opening-start, lists-else, opening-more, opening-end}
-use Rattle.controller.specs.Laws.Work.Ready.{ready-size, ready-few, ready-short, ready-list, ready-alike}
-use Rattle.controller.specs.Laws.State.{rules-give}
-use Rattle.controller.specs.Laws.Work.Tally.{nthList, list-at-sound, under-list}
-use Rattle.controller.specs.Laws.Work.Total.{total-has}
-use Rattle.controller.specs.Received.{receive, lists}
-use Rattle.controller.specs.State.{view}
-use Rattle.controller.specs.Work.Received.{receivedBy, sentCount}
-use Rattle.controller.specs.Work.Opened.{listUnder, endMark}
-use Rattle.controller.specs.declared.state.State.{State}
+use Rattle.controller.specs.Laws.Work.Opened.{Opening, under-sound, sent-few, own-sized, opening-start, opening-placeable, opening-place, opening-more}
+use Rattle.controller.specs.Laws.Work.Ready.{ready-few}
+use Rattle.controller.specs.Work.Opened.{endMark, maxLists, listAt, having}
 use Rattle.controller.proofs.opened.open_lists.Statement.{statement}
 use Rattle.controller.proofs.opened.open_lists.Tie as tie
 
 abbrev Inv-loop : tie.InvT-loop
-Inv-loop fields heard own tray notes starts₀ counts₀ sent₀ len₀ j₀ starts counts sent len j =
-    (j ≤ fields .heard)
-    × (getD counts 0 0 ≡ sentCount fields)
-    × Opening (lists (receivedBy (stateOf fields heard [] own) tray)) own tray starts counts sent len j
+Inv-loop fields own tray notes starts₀ counts₀ sent₀ round len₀ last₀ slot₀ j₀ starts counts sent len last slot j =
+    (j ≤ fields .heard) × Opening fields own tray notes starts counts sent len last slot j
 
 abbrev μ-loop : tie.MeasureT-loop
-μ-loop fields heard own tray notes starts₀ counts₀ sent₀ len₀ j₀ starts counts sent len j = fields .heard - j
+μ-loop fields own tray notes starts₀ counts₀ sent₀ round len₀ last₀ slot₀ j₀ starts counts sent len last slot j = fields .heard - j
 
--- the lent tray, and what is asked of `open_received`
+-- the lent tray, and a turn in which the place of a list was asked
 abbrev lent : tie.After-sent-count Inv-loop μ-loop → tie.After-shared-slice-known2 Inv-loop μ-loop
 lent c = c .before .before .before .before
 
-abbrev asked : tie.After-open-received-arg5 Inv-loop μ-loop → tie.After-open-received-arg2 Inv-loop μ-loop
-asked c = c .before .before .before
+abbrev turn : tie.After-place-list-arg2 Inv-loop μ-loop → tie.Then1 Inv-loop μ-loop
+turn c = c .before .before .before
 
--- the call, a turn, and its count
+abbrev placed : tie.After-slice-known5 Inv-loop μ-loop → tie.After-place-list Inv-loop μ-loop
+placed c = c .before .before .before .before
+
+-- the call, and a turn's loop
 abbrev outside : tie.At-loop Inv-loop μ-loop → tie.Start Inv-loop μ-loop
 outside c = lent (c .before) .before .before
 
-abbrev turn : tie.After-alike Inv-loop μ-loop → tie.Then1 Inv-loop μ-loop
-turn c = c .before .before .before
-
-abbrev received : tie.After-slice-known6 Inv-loop μ-loop → tie.After-open-received Inv-loop μ-loop
-received c = c .before .before .before .before .before .before
-
-abbrev counted : tie.After-open-received Inv-loop μ-loop → tie.After-alike Inv-loop μ-loop
-counted c = asked (c .before) .before .before
-
--- the state that is ready
-abbrev state : tie.At-loop Inv-loop μ-loop → State
-state c = let a = outside c .args in stateOf (a .fields) (now (a .heard)) (outside c .pre .candidates) (now (a .own))
+abbrev at-loop : tie.After-place-list Inv-loop μ-loop → tie.At-loop Inv-loop μ-loop
+at-loop c = turn (c .before) .before .before
 
 place-fits : (c : tie.Then1 Inv-loop μ-loop) → c .before .before .loop .j < maxNumbers
 place-fits c = omega (arith, c .if1 .taken, ready-few (outside (c .before .before) .pre .ready))
 
-weight-fits : (c : tie.After-alike Inv-loop μ-loop) → turn c .before .before .loop .j + c .alike .result ≤ maxNumbers
-weight-fits c = omega (arith, c .alike .ensures .inside, ready-few (outside (turn c .before .before) .pre .ready))
-
--- the list that is opened
-list-is : (c : tie.Then1 Inv-loop μ-loop)
-    → let a = outside (c .before .before) .args in
-    let j = c .before .before .loop .j in
-    listUnder (a .fields) (now (a .own)) (now (a .tray)) (getD (now (a .heard)) j 0) (getD (now (a .notes)) j 0)
-    ≡ nthList (lists (receivedBy (state (c .before .before)) (now (a .tray)))) j
-list-is c =
-    let a = outside (c .before .before) .args in
-    let pre = outside (c .before .before) .pre in
-    let j = c .before .before .loop .j in
-    under-list (a .fields) (now (a .heard)) (pre .candidates) (now (a .own)) (now (a .tray)) (getD (now (a .heard)) j 0) (getD (now (a .notes)) j 0)
-    ∙ ready-list (pre .ready) j (c .if1 .taken)
+-- the place is one of the room's, and a count there is no large number
+place-roomy : (c : tie.After-place-list Inv-loop μ-loop)
+    → (c .place-list .result < maxLists) × (getD (at-loop c .loop .sent) (c .place-list .result) 0 ≤ maxNumbers)
+place-roomy c = opening-place (at-loop c .loop .inv .1) (place-fits (turn (c .before))) (c .place-list .ensures)
 
 sent-count-requires : tie.Need-sent-count-requires Inv-loop μ-loop
 sent-count-requires c κs = search needs
@@ -86,90 +56,80 @@ loop-holds : tie.Need-loop-holds Inv-loop μ-loop
 loop-holds c =
     let start = lent c .before .before in
     let own : Below endMark (now (start .args .own)) = λ i. let h = lent c .before .shared-slice-known .given i in omega arith in
-    let first = getD-set-same (now (start .args .counts)) 0 (c .sent-count .result) 0 (omega (arith, start .pre .counts)) in
-    (omega arith, first ∙ c .sent-count .ensures, opening-start (start .pre) (c .sent-count .result) (c .sent-count .ensures) own)
+    (omega arith, opening-start (start .pre) (c .sent-count .result) (c .sent-count .ensures) own)
 
-alike-requires : tie.Need-alike-requires Inv-loop μ-loop
-alike-requires c κs =
-    let in-turn = c .before .before in
-    let few = ready-few (outside (in-turn .before .before) .pre .ready) in
-    (search needs, search needs, in-turn .if1 .taken)
+mul-note : tie.Need-mul-note Inv-loop μ-loop
+mul-note c = omega (arith, place-fits c)
 
-mul-open-received : tie.Need-mul-open-received Inv-loop μ-loop
-mul-open-received c = omega (arith, place-fits (turn c))
+element-copy-out-note : tie.Need-element-copy-out-note Inv-loop μ-loop
+element-copy-out-note c = omega (arith, place-fits c)
 
-element-copy-out-open-received : tie.Need-element-copy-out-open-received Inv-loop μ-loop
-element-copy-out-open-received c = omega (arith, place-fits (turn c))
+place-list-requires : tie.Need-place-list-requires Inv-loop μ-loop
+place-list-requires c κs =
+    let at = turn c .before .before in
+    let pre = outside at .pre in
+    opening-placeable (at .loop .inv .1) (place-fits (turn c)) (omega (arith, own-sized pre)) (sent-few pre)
 
-mul-open-received-2 : tie.Need-mul-open-received-2 Inv-loop μ-loop
-mul-open-received-2 c = omega (arith, place-fits (turn (c .before)))
+mul-sent : tie.Need-mul-sent Inv-loop μ-loop
+mul-sent c = omega (arith, place-roomy (placed c) .0)
 
-element-copy-out-open-received-2 : tie.Need-element-copy-out-open-received-2 Inv-loop μ-loop
-element-copy-out-open-received-2 c = omega (arith, place-fits (turn (c .before)))
+slice-read-sent : tie.Need-slice-read-sent Inv-loop μ-loop
+slice-read-sent c = let at = placed (c .before) in omega (arith, place-roomy at .0, at-loop at .loop .inv .1 .opens .weights)
 
-open-received-requires : tie.Need-open-received-requires Inv-loop μ-loop
-open-received-requires c κs =
-    let call = asked c .before .before in
-    let at-loop = turn call .before .before in
-    let v = at-loop .loop in
-    let opens = v .inv .2 .opens in
-    let pre = outside at-loop .pre in (
-      record {
-        free = omega (arith, v .inv .2 .few, place-fits (turn call));
-        starts = opens .starts;
-        counts = opens .counts;
-        sent = opens .weights;
-        light = omega (arith, opens .light, total-has (λ i. getD (v .sent) i 0) (v .len) 0 (opens .some));
-        weight = omega (arith, weight-fits call);
-        whole = omega (arith, own-sized pre);
-      },
-      (v .inv .1, sent-few pre),
-    )
+add-sent : tie.Need-add-sent Inv-loop μ-loop
+add-sent c = omega (arith, place-roomy (placed (c .before)) .1)
+
+slice-write-sent : tie.Need-slice-write-sent Inv-loop μ-loop
+slice-write-sent c = let at = placed (c .before) in omega (arith, place-roomy at .0, at-loop at .loop .inv .1 .opens .weights)
+
+add-len : tie.Need-add-len Inv-loop μ-loop
+add-len c = let at = placed (c .before .before) in omega (arith, at-loop at .loop .inv .1 .opens .few)
 
 add-j : tie.Need-add-j Inv-loop μ-loop
-add-j c = omega (arith, weight-fits (counted (received c)))
+add-j c = omega (arith, place-fits (turn (placed (c .before .before .before) .before)))
 
 loop-less : tie.Need-loop-less Inv-loop μ-loop
-loop-less c = let call = counted (received c) in omega (arith, call .alike .ensures .some, turn call .if1 .taken)
+loop-less c = omega (arith, turn (placed (c .before .before .before) .before) .if1 .taken)
 
 loop-again : tie.Need-loop-again Inv-loop μ-loop
 loop-again c =
-    let call = counted (received c) in
-    let alike = call .alike .ensures in
-    let at-loop = turn call .before .before in
-    let v = at-loop .loop in
-    let start = outside at-loop in
+    let at = placed (c .before .before .before) in
+    let in-turn = turn (at .before) in
+    let v = at-loop at .loop in
+    let start = outside (at-loop at) in
     let a = start .args in
-    let ready = start .pre .ready in
-    let bytes : Below 256 (now (a .tray)) = λ i. let h = lent (at-loop .before) .shared-slice-known2 .given i in omega arith in
-    let else = lists-else (a .fields) (now (a .heard)) [] (start .pre .candidates) (now (a .own)) (now (a .tray)) in
-    let l = lists (receivedBy (state at-loop) (now (a .tray))) in
-    let so-far : Opening l (now (a .own)) (now (a .tray)) (v .starts) (v .counts) (v .sent) (v .len) (v .j) = rw (sym else) (v .inv .2) in
-    let adds = rw (list-is (turn call)) at (received c .open-received .ensures) in
-    let sound = list-at-sound (view (state at-loop)) (entries (now (a .tray))) (rules-give (state at-loop) (ready .sound)) (ready .active) (v .j) in
-    let more =
-    opening-more l (call .alike .result) sound bytes (ready-short ready)
-    (alike .some) (omega (arith, ready-size ready, alike .inside)) (ready-alike ready (v .j) (call .alike .result) alike) so-far adds in
-    (alike .inside, more .1 ∙ v .inv .1, rw else (more .0))
+    let r = at .place-list .result in
+    let note = getD (now (a .notes)) (v .j) 0 in
+    let sound = under-sound (start .pre .ready) (v .j) (in-turn .if1 .taken) in
+    let bytes : Below 256 (now (a .tray)) = λ i. let h = lent (at-loop at .before) .shared-slice-known2 .given i in omega arith in
+    let len = v .len in
+    let longer : ((r ≡ len) × (c .before .if2 .len ≡ len + 1)) ⊎ ((r ≢ len) × (c .before .if2 .len ≡ len)) =
+    elim (c .before .if2 .came) [ inl e ↦ inl (e .0 .taken, e .1) | inr e ↦ inr (e .0 .left, e .1) ] in
+    let recalled : ((c .if3 .last ≡ note) × (c .if3 .slot ≡ r)) ⊎ ((c .if3 .last ≡ v .last) × (c .if3 .slot ≡ v .slot)) =
+    elim (c .if3 .came) [ inl e ↦ inl (e .1, e .2) | inr e ↦ inr (e .1, e .2) ] in (
+      omega (arith, in-turn .if1 .taken),
+      opening-more (v .inv .1) (place-fits in-turn) (at .place-list .ensures) bytes sound longer recalled,
+    )
 
 same-length : tie.Need-same-length Inv-loop μ-loop
-same-length c = let at-loop = c .before .before in omega (arith, at-loop .loop .inv .2 .opens .starts, outside at-loop .pre .starts)
+same-length c = let at = c .before .before in omega (arith, at .loop .inv .1 .opens .starts, outside at .pre .starts)
 
 same-length-2 : tie.Need-same-length-2 Inv-loop μ-loop
-same-length-2 c = let at-loop = c .before .before in omega (arith, at-loop .loop .inv .2 .opens .counts, outside at-loop .pre .counts)
+same-length-2 c = let at = c .before .before in omega (arith, at .loop .inv .1 .opens .counts, outside at .pre .counts)
 
 same-length-3 : tie.Need-same-length-3 Inv-loop μ-loop
-same-length-3 c = let at-loop = c .before .before in omega (arith, at-loop .loop .inv .2 .opens .weights, outside at-loop .pre .weights)
+same-length-3 c = let at = c .before .before in omega (arith, at .loop .inv .1 .opens .weights, outside at .pre .weights)
 
 returns : tie.Need-returns Inv-loop μ-loop
-unfolding receive
 returns c =
-    let at-loop = c .before .before in
-    let v = at-loop .loop in
-    let start = outside at-loop in
-    let a = start .args in
+    let at = c .before .before in
+    let v = at .loop in
+    let a = outside at .args in
     let all : v .j ≡ a .fields .heard = omega (arith, v .inv .0, c .if1 .left) in
-    opening-end (stateOf (a .fields) (now (a .heard)) [] (now (a .own))) (now (a .tray)) (all ∙ ready-size (start .pre .ready)) (v .inv .2)
+    record {
+      opens = v .inv .1 .opens;
+      counted = λ x. v .inv .1 .counts x ∙ ap (λ (h : ℕ). having (listAt (a .fields) (now (a .own)) (now (a .tray)) (now (a .notes))) h x) all;
+    }
 
 pub open-lists-spec : {M : Type 1} → statement M
 open-lists-spec =
@@ -180,12 +140,14 @@ open-lists-spec =
     sent-count-requires
     slice-write-counts
     loop-holds
-    alike-requires
-    mul-open-received
-    element-copy-out-open-received
-    mul-open-received-2
-    element-copy-out-open-received-2
-    open-received-requires
+    mul-note
+    element-copy-out-note
+    place-list-requires
+    mul-sent
+    slice-read-sent
+    add-sent
+    slice-write-sent
+    add-len
     add-j
     loop-less
     loop-again

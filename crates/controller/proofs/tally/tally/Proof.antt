@@ -1,18 +1,18 @@
 -- `controller::tally::tally` meets its contract: the open lists count as the received ones do, so that what is sorted along them is sorted by the tally.
 use Prim.Native.Nat.{ℕ}
-use mathlib.Core.List.{[]}
-use mathlib.Core.Path.{_≡_, refl, ap, _∙_}
+use mathlib.Core.Path.{_≡_, refl, _∙_}
 use native.Mathlib.Omega.{arith}
 use borrow.Author.Needs.{needs}
 use denote.Ref.{now}
+use lib.ListN.{getD-replicate}
 use Rattle.wire.specs.Tray.{entries}
 use Rattle.controller.specs.Fields.{stateOf}
-use Rattle.controller.specs.Received.{ReceivedLists, lists}
+use Rattle.controller.specs.Received.{lists}
 use Rattle.controller.specs.Rotation.{tally}
 use Rattle.controller.specs.State.{view}
-use Rattle.controller.specs.Work.Opened.{weighed}
+use Rattle.controller.specs.Work.Opened.{maxLists, weighed}
 use Rattle.controller.specs.Work.Received.{receivedBy}
-use Rattle.controller.specs.Laws.Work.Opened.{lists-else}
+use Rattle.controller.specs.Laws.Work.Opened.{under-tally}
 use Rattle.controller.specs.Laws.Work.Ready.{ready-size, ready-few}
 use Rattle.controller.specs.Laws.Received.{heard-some}
 use Rattle.controller.specs.Laws.State.{rules-give, rules-candidates}
@@ -40,14 +40,11 @@ state c = stateOf (c .args .fields) (now (c .args .heard)) (now (c .args .candid
 -- how many sent an open list with a number
 abbrev count : tie.After-open-lists → ℕ → ℕ
 count c =
-    weighed (now (start c .args .own)) (now (start c .args .tray)) (c .open-lists .last .1 .1 .1 .1 .1 .0) (c .open-lists .last .1 .1 .1 .1 .1 .1 .0)
-    (c .open-lists .last .1 .1 .1 .1 .1 .1 .1 .0) (c .open-lists .result)
+    weighed (now (start c .args .own)) (now (start c .args .tray)) (c .open-lists .last .1 .1 .1 .1 .0) (c .open-lists .last .1 .1 .1 .1 .1 .0)
+    (c .open-lists .last .1 .1 .1 .1 .1 .1 .0) (c .open-lists .result)
 
 counts : (c : tie.After-open-lists) → count c ≡ tally (lists (receivedBy (state (start c)) (now (start c .args .tray))))
-counts c i x =
-    let a = start c .args in
-    (c .open-lists .ensures .counted x
-    ∙ ap (λ (l : ReceivedLists). tally l x) (lists-else (a .fields) (now (a .heard)) [] (now (a .candidates)) (now (a .own)) (now (a .tray)))) i
+counts c i x = (c .open-lists .ensures .counted x ∙ under-tally (start c .pre .0) x) i
 
 slice-aggregate-open-lists : tie.Need-slice-aggregate-open-lists
 slice-aggregate-open-lists c = search needs
@@ -61,7 +58,16 @@ slice-aggregate-open-lists-3 c = search needs
 open-lists-requires : tie.Need-open-lists-requires
 open-lists-requires c κs =
     let s = given c in
-    record { candidates = now (s .args .candidates); ready = s .pre .0; starts = refl; counts = refl; weights = refl; first = refl; fresh = refl }
+    record {
+      heard = now (s .args .heard);
+      candidates = now (s .args .candidates);
+      ready = s .pre .0;
+      starts = refl;
+      counts = refl;
+      weights = refl;
+      first = refl;
+      fresh = λ j h. getD-replicate maxLists j 0 0 h;
+    }
 
 slice-aggregate-walk : tie.Need-slice-aggregate-walk
 slice-aggregate-walk c = search needs

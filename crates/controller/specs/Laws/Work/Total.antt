@@ -1,10 +1,15 @@
 -- Laws of sums.
 use Prim.Native.Nat.{ℕ, zero, suc, _+_, _≤_, _<_}
-use mathlib.Core.Logic.{_≢_}
+use mathlib.Core.Bool.{Bool, cond}
+use mathlib.Core.List.{List, [], _∷_}
+use mathlib.Core.Logic.{inl, inr, _≢_}
 use mathlib.Core.Path.{_≡_, refl, sym}
 use native.Mathlib.Decide.{ℕ-discrete}
 use native.Mathlib.Omega.{arith}
+use lib.ListN.{length, getD}
+use Rattle.controller.specs.Lists.{countIf}
 use Rattle.controller.specs.Work.Opened.{total}
+use Rattle.controller.specs.Laws.Lists.{true-or-false}
 
 pub total-same : (f g : ℕ → ℕ) (n : ℕ) → ((j : ℕ) → j < n → f j ≡ g j) → total f n ≡ total g n
 total-same f g zero same = refl
@@ -32,6 +37,19 @@ total-has f (suc n) k h = elim (ℕ-discrete k n) [
   | yes e ↦ rw e (omega arith)
   | no d ↦ omega (arith, total-has f n k (omega arith))
 ]
+
+-- a sum from its front
+total-front : (f : ℕ → ℕ) (n : ℕ) → total f (suc n) ≡ f 0 + total (λ (j : ℕ). f (suc j)) n
+total-front f zero = omega arith
+total-front f (suc n) = omega (arith, total-front f n)
+
+-- a count along a list is a sum over its places
+pub count-total : (f : ℕ → Bool) (l : List ℕ) → countIf f l ≡ total (λ (j : ℕ). cond (f (getD l j 0)) 1 0) (length l)
+count-total f [] = refl
+count-total f (x ∷ l) =
+    let front = total-front (λ (j : ℕ). cond (f (getD (x ∷ l) j 0)) 1 0) (length l) in
+    let rest = count-total f l in
+    elim (true-or-false (f x)) [ inl t ↦ rw t (omega (arith, rest, rw t at front)) | inr t ↦ rw t (omega (arith, rest, rw t at front)) ]
 
 pub total-none : (f : ℕ → ℕ) (n : ℕ) → ((j : ℕ) → j < n → f j ≡ 0) → total f n ≡ 0
 total-none f zero none = refl
