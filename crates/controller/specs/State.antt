@@ -33,7 +33,7 @@ pub record Rotor : Type 0 where
 pub record BitPart : Type 0 where
   -- the own bit
   pub own : ℕ
-  -- the bit said in the last frame
+  -- the bit said in the last frame, 2 from the decision on
   pub said : ℕ
   pub strong : ℕ
   -- 0, 1, or 2 for none
@@ -42,7 +42,7 @@ pub record BitPart : Type 0 where
 pub record View : Type 0 where
   -- the own number
   pub own : ℕ
-  -- the last round sent
+  -- the last round sent, or that of the decision, in which nothing is sent
   pub round : ℕ
   pub rotor : Rotor
   pub bit : BitPart

@@ -241,7 +241,7 @@ pub fn work(
     }
 }
 
-// Works a tray of the state's round and writes the next frame, or refuses it.
+// Works a tray of the state's round and writes the next frame, if the controller has not decided then; or refuses the tray.
 pub fn tray(state: State, tray: &[u8], out: &mut [u8]) -> Answer
     ensures { λ r. ⌜ TrayPromise state (before tray) (before out) r (after out) ⌝ }
 {

@@ -5,11 +5,11 @@ use wire::limits::MAX_NUMBERS;
 pub struct State {
     // The own number.
     pub own: u32,
-    // The last round sent.
+    // The last round sent, or that of the decision, in which nothing is sent.
     pub round: u32,
     // The own bit, 0 or 1.
     pub bit: u8,
-    // The bit said in the last frame, 2 for none.
+    // The bit said in the last frame, 2 for none; 2 from the decision on.
     pub said: u8,
     // 1 where two thirds proposed the own bit.
     pub strong: u8,
@@ -24,7 +24,7 @@ pub struct State {
     pub since: [u8; MAX_NUMBERS],
 }
 
-// The refusal, 0 for none; the state after the call; the length of the frame written, 0 when refused.
+// The refusal, 0 for none; the state after the call; the length of the frame written, 0 when refused and when the call decides.
 pub struct Answer {
     pub refusal: u8,
     pub state: State,
@@ -47,7 +47,8 @@ pub struct Fields {
     pub echoes: usize,
 }
 
-// What a call in place returns: the fields after the call; the length of the frame written, 0 when refused; the refusal, 0 for none.
+// What a call in place returns: the fields after the call; the length of the frame written, 0 when refused and when the call decides; the
+// refusal, 0 for none.
 pub struct Worked {
     pub fields: Fields,
     pub length: usize,

@@ -106,7 +106,7 @@ pub extern "C" fn controller_start(
     }
 }
 
-// Works a tray of the round of the image's state and writes the next frame. Refusals 1 to 8.
+// Works a tray of the round of the image's state and writes the next frame, or none if the controller decides. Refusals 1 to 8.
 #[no_mangle]
 pub extern "C" fn controller_tray(
     image: &mut [u8],
