@@ -9,7 +9,7 @@
 --     Opens w b s n c m          what is known of the m open lists, each sent by as many controllers as c says: they rise, and can be read
 --     weighed w b s n c m x      how many sent one of them that has x
 --     listUnder t l b k          the list of the frame that the note k is of, read in round t; the own list l where it is of none
---     listAt f e b t j           the list received with note j of t; f are the state's fields and e the places of its echoes
+--     notedList f e b t j        the list received with note j of t; f are the state's fields and e the places of its echoes
 --     having l h x               how many of the lists l 0 to l (h - 1) have x
 --     Recalls t w b s n m k j    open list j, one of m, is the list of the note k
 --     Placeable t w b s n m k j  there is room for one list more behind the m open ones, of which list j is that of the note k
@@ -87,8 +87,8 @@ weighed own b starts counts weights m x = total (λ (j : ℕ). cond (mem x (open
 abbrev pub listUnder : ℕ → List ℕ → List ℕ → ℕ → List ℕ
 listUnder round own b k = cond (eqb k noFrame) own (listIn (readIn round (noted b k)))
 
-abbrev pub listAt : Fields → List ℕ → List ℕ → List ℕ → ℕ → List ℕ
-listAt f e b t j = listUnder (f .round) (take (sentCount f) e) b (getD t j 0)
+abbrev pub notedList : Fields → List ℕ → List ℕ → List ℕ → ℕ → List ℕ
+notedList f e b t j = listUnder (f .round) (take (sentCount f) e) b (getD t j 0)
 
 abbrev pub having : (ℕ → List ℕ) → ℕ → ℕ → ℕ
 having l h x = total (λ (j : ℕ). cond (mem x (l j)) 1 0) h
@@ -139,4 +139,4 @@ pub record Openable (f : Fields) (e b t s n w : List ℕ) : Type 0 where
 
 pub record OpensAll (f : Fields) (e b t s n w : List ℕ) (m : ℕ) : Type 0 where
   pub opens : Opens e b s n w m
-  pub counted : (x : ℕ) → weighed e b s n w m x ≡ having (listAt f e b t) (f .heard) x
+  pub counted : (x : ℕ) → weighed e b s n w m x ≡ having (notedList f e b t) (f .heard) x

@@ -10,7 +10,7 @@ use Rattle.wire.specs.Limits.{maxNumbers}
 use Rattle.wire.specs.Words.{Below}
 use Rattle.controller.specs.Laws.Work.Opened.{Opening, under-sound, sent-few, own-sized, opening-start, opening-placeable, opening-place, opening-more}
 use Rattle.controller.specs.Laws.Work.Ready.{ready-few}
-use Rattle.controller.specs.Work.Opened.{endMark, maxLists, listAt, having}
+use Rattle.controller.specs.Work.Opened.{endMark, maxLists, notedList, having}
 use Rattle.controller.proofs.opened.open_lists.Statement.{statement}
 use Rattle.controller.proofs.opened.open_lists.Tie as tie
 
@@ -128,7 +128,7 @@ returns c =
     let all : v .j ≡ a .fields .heard = omega (arith, v .inv .0, c .if1 .left) in
     record {
       opens = v .inv .1 .opens;
-      counted = λ x. v .inv .1 .counts x ∙ ap (λ (h : ℕ). having (listAt (a .fields) (now (a .own)) (now (a .tray)) (now (a .notes))) h x) all;
+      counted = λ x. v .inv .1 .counts x ∙ ap (λ (h : ℕ). having (notedList (a .fields) (now (a .own)) (now (a .tray)) (now (a .notes))) h x) all;
     }
 
 pub open-lists-spec : {M : Type 1} → statement M

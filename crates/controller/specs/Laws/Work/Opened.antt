@@ -25,7 +25,7 @@ use Rattle.controller.specs.Rotation.{tally}
 use Rattle.controller.specs.State.{view}
 use Rattle.controller.specs.Work.Received.{receivedBy, Ready, sentCount}
 use Rattle.controller.specs.Work.Opened.{total, endMark, maxLists, SpanOf, listFrom, openList, Lies, Opens, weighed}
-use Rattle.controller.specs.Work.Opened.{listUnder, listAt, having, Recalls, Placeable, Places, Openable}
+use Rattle.controller.specs.Work.Opened.{listUnder, notedList, having, Recalls, Placeable, Places, Openable}
 use Rattle.controller.specs.Laws.State.{SoundList, rules-give}
 use Rattle.controller.specs.Laws.Work.Ready.{ready-list, ready-size}
 use Rattle.controller.specs.Laws.Work.Tally.{nthList, list-at-sound, below-in, below-take, echoes-sized}
@@ -59,20 +59,20 @@ module _ {f : Fields} {h c e b t : List ℕ} (ready : Ready (stateOf f h c e) b 
       pick true = refl
       pick false = refl
 
-  under-is : (j : ℕ) → j < f .heard → listAt f e b t j ≡ nthList (lists (receivedBy (stateOf f h c e) b)) j
+  under-is : (j : ℕ) → j < f .heard → notedList f e b t j ≡ nthList (lists (receivedBy (stateOf f h c e) b)) j
   under-is j l = ap (λ (m : List ℕ). listUnder (f .round) m b (getD t j 0)) (sym own-list) ∙ ready-list ready j l
 
-  pub under-sound : (j : ℕ) → j < f .heard → SoundList (listAt f e b t j)
+  pub under-sound : (j : ℕ) → j < f .heard → SoundList (notedList f e b t j)
   under-sound j l =
       subst SoundList (sym (under-is j l))
       (list-at-sound (view (stateOf f h c e)) (entries b) (rules-give (stateOf f h c e) (ready .sound)) (ready .active) j)
 
-  pub under-tally : (x : ℕ) → having (listAt f e b t) (f .heard) x ≡ tally (lists (receivedBy (stateOf f h c e) b)) x
+  pub under-tally : (x : ℕ) → having (notedList f e b t) (f .heard) x ≡ tally (lists (receivedBy (stateOf f h c e) b)) x
   unfolding tally
   under-tally x =
       let l = lists (receivedBy (stateOf f h c e) b) in
       let has : ℕ → ℕ = λ j. cond (mem x (nthList l j)) 1 0 in
-      total-same (λ (j : ℕ). cond (mem x (listAt f e b t j)) 1 0) has (f .heard) (λ j k. ap (λ (m : List ℕ). cond (mem x m) 1 0) (under-is j k))
+      total-same (λ (j : ℕ). cond (mem x (notedList f e b t j)) 1 0) has (f .heard) (λ j k. ap (λ (m : List ℕ). cond (mem x m) 1 0) (under-is j k))
       ∙ ap (total has) (ready-size ready)
       ∙ sym (count-total (λ (y : ℕ). mem x (l .list y)) (l .heard))
 
@@ -237,7 +237,7 @@ pub record Opening (f : Fields) (own b t s n w : List ℕ) (m last slot j : ℕ)
   pub few : m ≤ j + 1
   pub weight : total (λ (i : ℕ). getD w i 0) m ≡ j
   pub fresh : (i : ℕ) → m ≤ i → i < maxLists → getD w i 0 ≡ 0
-  pub counts : (x : ℕ) → weighed own b s n w m x ≡ having (listAt f own b t) j x
+  pub counts : (x : ℕ) → weighed own b s n w m x ≡ having (notedList f own b t) j x
   pub recalls : Recalls (f .round) own b s n m last slot
 
 -- the own list of a state that is ready is all that is open at first
@@ -320,11 +320,11 @@ module _ {f : Fields} {own b t s n w : List ℕ} {m last slot j : ℕ} (g : Open
     ]
 
     -- the lists are one longer if the place is behind them, and either this note is remembered or still the last
-    module _ {p last′ slot′ : ℕ} (bytes : Below 256 b) (sound : SoundList (listAt f own b t j))
+    module _ {p last′ slot′ : ℕ} (bytes : Below 256 b) (sound : SoundList (notedList f own b t j))
         (longer : ((r ≡ m) × (p ≡ m + 1)) ⊎ ((r ≢ m) × (p ≡ m)))
         (recalled : ((last′ ≡ getD t j 0) × (slot′ ≡ r)) ⊎ ((last′ ≡ last) × (slot′ ≡ slot)))
       where
-        list : listUnder (f .round) (openList own b s n 0) b (getD t j 0) ≡ listAt f own b t j
+        list : listUnder (f .round) (openList own b s n 0) b (getD t j 0) ≡ notedList f own b t j
         list = ap (λ (k : ℕ). listUnder (f .round) (take k own) b (getD t j 0)) (g .mine)
 
         placed : Placed own b (listUnder (f .round) (openList own b s n 0) b (getD t j 0)) s n w m s′ n′ p r
@@ -367,7 +367,7 @@ module _ {f : Fields} {own b t s n w : List ℕ} {m last slot j : ℕ} (g : Open
               counts =
                   λ x.
                   let has : List ℕ → ℕ = λ l. cond (mem x l) 1 0 in
-                  let next : having (listAt f own b t) (j + 1) x ≡ having (listAt f own b t) j x + has (listAt f own b t j) = rw add-one in
+                  let next : having (notedList f own b t) (j + 1) x ≡ having (notedList f own b t) j x + has (notedList f own b t j) = rw add-one in
                   omega (arith, next, more-counts (placed .opens) r (placed .one) x, placed .counts x, g .counts x, ap has (placed .list ∙ list));
               recalls = recalls-on;
             }
