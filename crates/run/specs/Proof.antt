@@ -14,6 +14,7 @@ pub mod StepsBit
 pub mod Protocol
 -- Lists of calls: that a run is such steps.
 pub mod Calls
+pub mod Held
 pub mod RunSteps
 pub mod Agreement
 -- Of a list of calls by itself: that the record has the round of the first tray that brought a number.

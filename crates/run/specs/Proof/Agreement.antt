@@ -22,7 +22,8 @@ use Rattle.run.specs.Outcome.{Decides, Outcome}
 use Rattle.run.specs.Proof.Steps.{Steps, AtWork}
 use Rattle.run.specs.Proof.Protocol.{deadline, agree, valid, reception-fits}
 use Rattle.run.specs.Proof.Calls.{state-round, state-own, state-sound, sent-state, decides-by}
-use Rattle.run.specs.Proof.RunSteps.{size, at-most, steps, state-held, input-at, state-at, each-number, delivers-reception, step-rules}
+use Rattle.run.specs.Proof.Held.{at-most}
+use Rattle.run.specs.Proof.RunSteps.{size, steps, state-held, input-at, state-at, each-number, delivers-reception, step-rules}
 
 module _ (r : Run) where
   open Run r using (correct, faulty)
