@@ -7,11 +7,12 @@ ghost use Rattle.wire.specs.Frame.{kindOf};
 ghost use Rattle.wire.specs.Limits.{maxNumbers, lastRound};
 ghost use Rattle.wire.specs.Numbers.{stored};
 ghost use Rattle.controller.specs.Fields.{stateOf, stateGiven};
-ghost use Rattle.controller.specs.Work.Received.{Ready, WhereReady, AnyReady};
-ghost use Rattle.controller.specs.Work.Step.{namedState, Due, MakesFields, MakesGrown, MakesParts, MakesEchoes};
+ghost use Rattle.controller.specs.Work.Received.{Ready, WhereReady, CountsFew};
+ghost use Rattle.controller.specs.Work.Step.{namedState, Due, MakesCounted, MakesGrown, MakesParts, MakesEchoes};
 use crate::bit::bit_taken;
 use crate::bit::proposal;
 use crate::bit::spoken;
+use crate::received::Counts;
 use crate::received::count_bits;
 use crate::rotation::king_at;
 use crate::rotation::roster;
@@ -61,23 +62,21 @@ fn make_roster(
     next
 }
 
-fn make_propose(fields: Fields, tray: &[u8], notes: &[u32; MAX_NUMBERS]) -> Fields
-    requires { ⌜ (fields .heard ≤ maxNumbers) × (fields .round < lastRound) ⌝ }
-    ensures { λ r. ⌜ AnyReady fields tray notes (λ s b. kindOf (s .round + 1) ≡ 4 → MakesFields s b r) ⌝ }
+fn make_propose(fields: Fields, counts: Counts) -> Fields
+    requires { ⌜ (fields .heard ≤ maxNumbers) × (fields .round < lastRound) × CountsFew (fields .heard) counts ⌝ }
+    ensures { λ r. ⌜ MakesCounted 3 fields counts r ⌝ }
 {
     let mut next = fields;
-    let counts = count_bits(fields, tray, notes);
     next.said = proposal(counts, fields.heard);
     next.round = fields.round + 1;
     next
 }
 
-fn make_turn(fields: Fields, tray: &[u8], notes: &[u32; MAX_NUMBERS]) -> Fields
-    requires { ⌜ (fields .heard ≤ maxNumbers) × (fields .round < lastRound) × (fields .bit ≤ 1) ⌝ }
-    ensures { λ r. ⌜ AnyReady fields tray notes (λ s b. kindOf (s .round + 1) ≡ 5 → MakesFields s b r) ⌝ }
+fn make_turn(fields: Fields, counts: Counts) -> Fields
+    requires { ⌜ (fields .heard ≤ maxNumbers) × (fields .round < lastRound) × (fields .bit ≤ 1) × CountsFew (fields .heard) counts ⌝ }
+    ensures { λ r. ⌜ MakesCounted 4 fields counts r ⌝ }
 {
     let mut next = fields;
-    let counts = count_bits(fields, tray, notes);
     let turn = spoken(fields, counts, fields.heard);
     next.bit = turn.bit;
     next.strong = turn.strong;
@@ -149,17 +148,20 @@ pub(crate) fn step(
         }
     } else if kind == VALUE {
         make_value(fields, heard, candidates, echoes, tray, notes)
-    } else if kind == PROPOSE {
-        let made = make_propose(fields, tray, notes);
-        Made {
-            fits: true,
-            fields: made,
-        }
     } else {
-        let made = make_turn(fields, tray, notes);
-        Made {
-            fits: true,
-            fields: made,
+        let counts = count_bits(fields, tray, notes);
+        if kind == PROPOSE {
+            let made = make_propose(fields, counts);
+            Made {
+                fits: true,
+                fields: made,
+            }
+        } else {
+            let made = make_turn(fields, counts);
+            Made {
+                fits: true,
+                fields: made,
+            }
         }
     }
 }

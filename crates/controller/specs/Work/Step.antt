@@ -4,6 +4,8 @@
 --     namedState n r           the state n with what (c) gives in phase r: the king, or the decision, with which nothing is said any more
 --     Makes s b r t            r says whether the lists of the state that the step makes of s fit; if so, t is that state, else t is s
 --     MakesEchoes, MakesFields, MakesParts, MakesGrown    the same of a state in parts
+--     MakesCounted k f n r     r are the fields that the step makes of each state with the fields f that is ready to make a frame of the kind after k, where n has
+--                              the counts of the bits received
 use Prim.Native.Nat.{ℕ, _+_, _<_}
 use mathlib.Core.Bool.{true, false, cond, Bool}
 use mathlib.Core.List.{List}
@@ -20,8 +22,9 @@ use Rattle.controller.specs.Fields.{Lent, stateOf, stateBefore}
 use Rattle.controller.specs.Bit.{bitTaken}
 use Rattle.controller.specs.Rules.{next}
 use Rattle.controller.specs.Refusals.{listsFit}
-use Rattle.controller.specs.Work.Received.{receivedBy, Ready}
+use Rattle.controller.specs.Work.Received.{receivedBy, Ready, CountsBits}
 use Rattle.controller.specs.Work.Tally.{GrowsLists}
+use Rattle.controller.specs.declared.received.Counts.{Counts}
 use Rattle.controller.specs.declared.state.Fields.{Fields}
 use Rattle.controller.specs.declared.state.State.{State}
 use Rattle.controller.specs.declared.step.Made.{Made}
@@ -54,6 +57,11 @@ MakesEchoes s b f e = Makes s b true (stateOf f (s .heard .at) (s .candidates .a
 -- the step changes the fields alone
 abbrev pub MakesFields : State → List ℕ → Fields → Type 0
 MakesFields s b f = Makes s b true (stateOf f (s .heard .at) (s .candidates .at) (s .echoes .at))
+
+abbrev pub MakesCounted : ℕ → Fields → Counts → Fields → Type 0
+MakesCounted k f n r =
+    (h c e b t : List ℕ) → Ready (stateOf f h c e) b t → kindOf (f .round + 1) ≡ k + 1 → CountsBits k (receivedBy (stateOf f h c e) b) n
+    → MakesFields (stateOf f h c e) b r
 
 -- the step of a state in parts
 abbrev pub MakesParts : Fields → Lent → Lent → Lent → Lent → Made → Type 0
