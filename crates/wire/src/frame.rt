@@ -99,10 +99,11 @@ fn chosen_by(bit: u8) -> Choice
     }
 }
 
-// What a frame of a kind with a bit says.
+// What a frame of a kind with a bit says. The choice is made first, once: so the compiler keeps it out of memory.
 pub fn said_by(kind: u8, bit: u8) -> Said
     ensures { λ r. ⌜ r ≡ saidBy kind bit ⌝ }
 {
+    let choice = chosen_by(bit);
     if kind == INIT {
         Said::Init
     } else if kind == ROSTER {
@@ -110,9 +111,9 @@ pub fn said_by(kind: u8, bit: u8) -> Said
     } else if kind == VALUE {
         Said::Value(bit)
     } else if kind == PROPOSE {
-        Said::Proposal(chosen_by(bit))
+        Said::Proposal(choice)
     } else {
-        Said::Opinion(chosen_by(bit))
+        Said::Opinion(choice)
     }
 }
 

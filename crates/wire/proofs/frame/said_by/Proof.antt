@@ -8,9 +8,6 @@ use Rattle.wire.proofs.frame.said_by.Tie as tie
 chosen-by-requires : tie.Need-chosen-by-requires
 chosen-by-requires c κs = search needs
 
-chosen-by-requires-2 : tie.Need-chosen-by-requires-2
-chosen-by-requires-2 c κs = search needs
-
 returns : tie.Need-returns
 unfolding saidBy
 returns c = search (tests, needs)
@@ -36,7 +33,6 @@ said-by-spec =
     tie.close
     (tie.spec
     chosen-by-requires
-    chosen-by-requires-2
     returns
     returns-2
     returns-3
