@@ -4,8 +4,8 @@
 --     namedState n r           the state n with what (c) gives in phase r: the king, or the decision, with which nothing is said any more
 --     Makes s b r t            r says whether the lists of the state that the step makes of s fit; if so, t is that state, else t is s
 --     MakesEchoes, MakesFields, MakesParts, MakesGrown    the same of a state in parts
---     MakesCounted k f n r     r are the fields that the step makes of each state with the fields f that is ready to make a frame of the kind after k, where n has
---                              the counts of the bits received
+--     MakesCounted k f n r     r are the fields that the step makes of each state with the fields f that is ready to make a frame of the kind after k, where n
+--                              has the counts of the bits received
 use Prim.Native.Nat.{ℕ, _+_, _<_}
 use mathlib.Core.Bool.{true, false, cond, Bool}
 use mathlib.Core.List.{List}
