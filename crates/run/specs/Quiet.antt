@@ -14,7 +14,7 @@ Decided s = s .decision ≢ 2
 
 -- nothing is sent with the call, and its output stays
 pub record Nothing (k : TrayCall) : Type 0 where
-  pub length : k .answer .length ≡ 0
+  pub sent : k .answer .length ≡ 0
   pub output : k .after ≡ k .before
 
 -- the call is refused under 2, and the state stays

@@ -40,7 +40,7 @@ module _ (c : Controller) where
             let nothing =
             promise-nothing (k .promise) (λ w. ap (λ (v : View). undecided v) (sym (makes-view (accepted-makes k w))) ∙ decided) in
             let good = sound-gives (k .answer .state) (state-sound c (k .answer .state) (returned-listed c i)) in
-            (record { length = nothing .0; output = nothing .1 }, good .quiet decided);
+            (record { sent = nothing .0; output = nothing .1 }, good .quiet decided);
         final = λ earlier later e d k i.
             let s = stateAfter (start .answer .state) earlier in
             let handed = handed-rest (start .answer .state) earlier later (subst (HandedOn (start .answer .state)) e (c .handed)) in
