@@ -1,6 +1,7 @@
 //! What the tests of the compiled engine share.
 //!
 //! `tests/differential.rs` compares the engine with the reference call by call;
+//! `tests/fault.rs` makes sure that a fault in the reference is found;
 //! `tests/order.rs` hands over entries in another order;
 //! `tests/networks.rs` runs whole networks with faulty controllers among them;
 //! `tests/every.rs` follows everything that can happen in lines of four and five;
@@ -23,7 +24,8 @@
 //! - [`records`]: damage to the record of first rounds, and what trays did to it;
 //! - [`quiet`]: damage to the bit said, decided states, and silence in trays;
 //! - [`network`], [`adversary`]: a whole network, and what its faulty ones send;
-//!   [`stagger`], how they make correct ones stop at different rounds.
+//!   [`stagger`], how they make correct ones stop at different rounds;
+//! - [`seeds`]: a case of the comparison or a run of a network, by its seed.
 
 #![forbid(unsafe_code)]
 
@@ -42,6 +44,7 @@ pub mod page;
 pub mod quiet;
 pub mod random;
 pub mod records;
+pub mod seeds;
 pub mod stagger;
 pub mod states;
 pub mod trays;

@@ -3,37 +3,12 @@
 //! `cargo test --release -p checks --test networks -- --nocapture` prints the seeds.
 //! CHECKS_SEED moves the first one.
 
-use checks::adversary::{Members, Rushing};
+use checks::adversary::Rushing;
 use checks::calls::{Calls, Engine};
 use checks::network::{Adversary, Network, Seen, View};
 use checks::packing::{frame, Entry, NONE};
-use checks::random::Random;
+use checks::seeds::{broken, first_seed, run, MakeAdversary};
 use std::ops::RangeInclusive;
-
-fn first_seed() -> u64 {
-    match std::env::var("CHECKS_SEED") {
-        Ok(seed) => seed.parse().expect("CHECKS_SEED is a number"),
-        Err(_) => 1,
-    }
-}
-
-/// Who sends for the faulty ones, by a seed.
-type MakeAdversary = fn(u64, &Members) -> Rushing;
-
-/// One run of a network; the seed fixes who is faulty and all that happens.
-fn run<C: Calls>(
-    size: usize,
-    faulty: usize,
-    seed: u64,
-    make: MakeAdversary,
-) -> Result<Seen, String> {
-    let mut random = Random::new(seed);
-    let members = Members::of(&mut random, size, faulty);
-    let mut adversary = make(random.word(), &members);
-    let mut network = Network::<C>::start(&members.correct, members.faulty.len(), random.word())?;
-    network.run(&mut adversary)?;
-    Ok(network.seen)
-}
 
 /// Runs with as many faulty ones as may be and with fewer, for some sizes, each with
 /// a seed of its own.
@@ -143,13 +118,6 @@ fn late_ones_are_recorded() {
     }
 }
 
-/// The first seed whose run breaks a claim, and how.
-fn broken<C: Calls>(size: usize, faulty: usize, claim: &str) -> Option<(u64, String)> {
-    let runs = (1..5000).map(|seed| (seed, run::<C>(size, faulty, seed, Rushing::new)));
-    runs.filter_map(|(seed, end)| Some((seed, end.err()?)))
-        .find(|(_, broken)| broken.starts_with(claim))
-}
-
 /// The bound is sharp, and the checks can fail: where a third or more are faulty,
 /// each claim breaks in some run. (Where just a third are, the correct ones are two
 /// thirds, and an input that these all have is still decided.)
@@ -167,16 +135,6 @@ fn a_faulty_third_breaks_agreement() {
         println!("{size} with {faulty} faulty: {found:?}");
         assert!(found.is_some(), "{size} with {faulty} faulty: {claim}");
     }
-}
-
-/// With a third rounded down, agreement breaks though few enough are faulty.
-#[cfg(feature = "fault")]
-#[test]
-fn a_network_of_faulty_references_breaks() {
-    use checks::calls::Reference;
-    let found = broken::<Reference>(4, 1, "no agreement");
-    println!("found: {found:?}");
-    assert!(found.is_some());
 }
 
 /// The faulty one of document 01's last trial, with document 02's void frame: an empty
