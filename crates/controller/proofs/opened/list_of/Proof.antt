@@ -2,14 +2,12 @@
 use Prim.Native.Nat.{ℕ, zero, suc, _+_, _*_, _≤_, _<_}
 use mathlib.Core.Bool.{Bool, true, false, cond}
 use mathlib.Core.List.{List, []}
-use mathlib.Core.Logic.{_⊎_, inl, inr}
 use mathlib.Core.Option.{Option, some, none}
 use mathlib.Core.Path.{_≡_, refl, sym, ap, _∙_}
 use native.Mathlib.Decide.{decLt}
 use native.Mathlib.Omega.{arith}
 use borrow.Author.Needs.{needs}
 use borrow.Author.Tests.{leb-true}
-use denote.Enum.Declared.{tagOf}
 use denote.Ref.{now}
 use lib.Dec.{leb}
 use lib.ListN.{length, getD, take, drop, length-drop}
@@ -19,17 +17,15 @@ use Rattle.wire.specs.Laws.Frame.{read-numbers}
 use Rattle.wire.specs.Laws.Tray.{part-byte}
 use Rattle.wire.specs.Laws.Words.{words-length}
 use Rattle.wire.specs.Limits.{frameHeader, numberWidth}
-use Rattle.wire.proofs.found.Found.{the-type}
-use Rattle.wire.specs.Found.{meaning}
 use Rattle.wire.specs.Notes.{foundBy}
 use Rattle.wire.specs.Laws.Notes.{found-small}
 use Rattle.wire.specs.Tray.{part}
 use Rattle.wire.specs.Words.{wordsAt}
-use Rattle.wire.specs.declared.found.Found.{Found}
-use Rattle.wire.specs.declared.found.Found.the-variants.{At, Nothing, Several}
+use Rattle.wire.specs.declared.found.Found.the-variants.{At}
 use Rattle.controller.specs.Received.{readIn, listIn}
 use Rattle.controller.specs.Work.Opened.{SpanOf}
 use Rattle.controller.specs.Work.Received.{noted}
+use Rattle.controller.proofs.NoPlace.{no-place}
 use Rattle.controller.proofs.opened.list_of.Statement.{statement}
 use Rattle.controller.proofs.opened.list_of.Tie as tie
 
@@ -64,12 +60,9 @@ numbers-lie s t n (some c) h e =
     let same : n ≡ countOf s = e ∙ ap length (read .0) ∙ words-length s frameHeader (countOf s) in
     (rw same (sym (read .0)), λ l. omega (arith, same, read .1))
 
--- the cases of the `else`
-missing : (b : List ℕ) (t : ℕ) (f : Found) → (tagOf the-type f ≡ 1) ⊎ (tagOf the-type f ≡ 2) → SpanOf b (listIn (readIn t (meaning b f))) 0 0
-missing b t (At o n) (inl e) = absurd (omega arith)
-missing b t (At o n) (inr e) = absurd (omega arith)
-missing b t Nothing h = record { is = refl; low = omega arith; inside = λ k l. absurd (omega arith) }
-missing b t Several h = record { is = refl; low = omega arith; inside = λ k l. absurd (omega arith) }
+-- nothing lies anywhere
+no-span : (b : List ℕ) → SpanOf b [] 0 0
+no-span b = record { is = refl; low = omega arith; inside = λ k l. absurd (omega arith) }
 
 module _ (b : List ℕ) (k t : ℕ) (word : k < 4294967296) where
   found : (o n r : ℕ) (s : List ℕ) → foundBy k ≡ At o n → s ≡ part b o n → r ≡ length (listIn (content s t))
@@ -120,7 +113,7 @@ returns c =
 returns-2 : tie.Need-returns-2
 returns-2 c =
     let a = given (c .before) .args in
-    missing (now (a .tray)) (a .round) (foundBy (a .note)) (rw (c .before .found-by .ensures) at (c .match .keys2))
+    rw (no-place (now (a .tray)) (a .round) (foundBy (a .note)) (rw (c .before .found-by .ensures) at (c .match .keys2))) (no-span (now (a .tray)))
 
 pub list-of-spec : {M : Type 1} → statement M
 list-of-spec =

@@ -1,33 +1,21 @@
 -- `controller::received::noted_bit` meets its contract: the bit of the one frame is read; where there is none, or several, 3 stands for that.
 use Prim.Native.Nat.{ℕ}
 use mathlib.Core.List.{List}
-use mathlib.Core.Logic.{_⊎_, inl, inr}
-use mathlib.Core.Path.{_≡_, refl, sym, _∙_}
-use native.Mathlib.Omega.{arith}
+use mathlib.Core.Path.{_≡_, sym, _∙_}
 use borrow.Author.Needs.{needs}
-use denote.Enum.Declared.{tagOf}
 use denote.Ref.{now}
 use Rattle.controller.specs.Received.{readIn}
 use Rattle.controller.specs.Work.Received.{noted}
-use Rattle.wire.proofs.found.Found.{the-type}
-use Rattle.wire.specs.Found.{meaning}
 use Rattle.wire.specs.Notes.{foundBy}
 use Rattle.wire.specs.Frame.{content, bitIn}
 use Rattle.wire.specs.Tray.{part}
-use Rattle.wire.specs.declared.found.Found.{Found}
-use Rattle.wire.specs.declared.found.Found.the-variants.{At, Nothing, Several}
+use Rattle.wire.specs.declared.found.Found.the-variants.{At}
+use Rattle.controller.proofs.NoPlace.{no-place}
 use Rattle.controller.proofs.received.noted_bit.Statement.{statement}
 use Rattle.controller.proofs.received.noted_bit.Tie as tie
 
 found : (b : List ℕ) (k t o n : ℕ) (s : List ℕ) → foundBy k ≡ At o n → s ≡ part b o n → bitIn (content s t) ≡ bitIn (readIn t (noted b k))
 found b k t o n s p e = rw (p, e)
-
--- the cases of the `else`
-missing : (b : List ℕ) (t : ℕ) (f : Found) → (tagOf the-type f ≡ 1) ⊎ (tagOf the-type f ≡ 2) → 3 ≡ bitIn (readIn t (meaning b f))
-missing b t (At o n) (inl e) = absurd (omega arith)
-missing b t (At o n) (inr e) = absurd (omega arith)
-missing b t Nothing h = refl
-missing b t Several h = refl
 
 found-by-requires : tie.Need-found-by-requires
 found-by-requires c κs = search needs
@@ -38,7 +26,7 @@ enum-known-found c = search needs
 returns : tie.Need-returns
 returns c =
     let a = c .before .before .before .args in
-    missing (now (a .tray)) (a .round) (foundBy (a .note)) (rw (c .before .found-by .ensures) at (c .match .keys2))
+    rw (no-place (now (a .tray)) (a .round) (foundBy (a .note)) (rw (c .before .found-by .ensures) at (c .match .keys2)))
 
 part-of-requires : tie.Need-part-of-requires
 part-of-requires c κs = search needs
