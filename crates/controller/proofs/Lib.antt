@@ -1,4 +1,3 @@
 -- What several proofs of the crate share.
 pub mod Heard
-pub mod NoPlace
 pub mod Promises

@@ -1,3 +1,4 @@
--- What several proofs of the crate share.
+-- What several proofs of the crate share, and `NoPlace` with those of `controller`.
+pub mod NoPlace
 pub mod Rest
 pub mod Tests

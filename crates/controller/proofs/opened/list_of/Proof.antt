@@ -17,6 +17,8 @@ use Rattle.wire.specs.Laws.Frame.{read-numbers}
 use Rattle.wire.specs.Laws.Tray.{part-byte}
 use Rattle.wire.specs.Laws.Words.{words-length}
 use Rattle.wire.specs.Limits.{frameHeader, numberWidth}
+use Rattle.wire.proofs.NoPlace.{no-place}
+use Rattle.wire.specs.Found.{meaning}
 use Rattle.wire.specs.Notes.{foundBy}
 use Rattle.wire.specs.Laws.Notes.{found-small}
 use Rattle.wire.specs.Tray.{part}
@@ -25,7 +27,6 @@ use Rattle.wire.specs.declared.found.Found.the-variants.{At}
 use Rattle.controller.specs.Received.{readIn, listIn}
 use Rattle.controller.specs.Work.Opened.{SpanOf}
 use Rattle.controller.specs.Work.Received.{noted}
-use Rattle.controller.proofs.NoPlace.{no-place}
 use Rattle.controller.proofs.opened.list_of.Statement.{statement}
 use Rattle.controller.proofs.opened.list_of.Tie as tie
 
@@ -60,7 +61,7 @@ numbers-lie s t n (some c) h e =
     let same : n ≡ countOf s = e ∙ ap length (read .0) ∙ words-length s frameHeader (countOf s) in
     (rw same (sym (read .0)), λ l. omega (arith, same, read .1))
 
--- nothing lies anywhere
+-- a list of no numbers lies at any place, here at 0
 no-span : (b : List ℕ) → SpanOf b [] 0 0
 no-span b = record { is = refl; low = omega arith; inside = λ k l. absurd (omega arith) }
 
@@ -113,7 +114,9 @@ returns c =
 returns-2 : tie.Need-returns-2
 returns-2 c =
     let a = given (c .before) .args in
-    rw (no-place (now (a .tray)) (a .round) (foundBy (a .note)) (rw (c .before .found-by .ensures) at (c .match .keys2))) (no-span (now (a .tray)))
+    let none = no-span (now (a .tray)) in
+    no-place (λ f. SpanOf (now (a .tray)) (listIn (readIn (a .round) (meaning (now (a .tray)) f))) 0 0) none none (foundBy (a .note))
+    (rw (c .before .found-by .ensures) at (c .match .keys2))
 
 pub list-of-spec : {M : Type 1} → statement M
 list-of-spec =

@@ -1,16 +1,17 @@
 -- `controller::received::noted_bit` meets its contract: the bit of the one frame is read; where there is none, or several, 3 stands for that.
 use Prim.Native.Nat.{ℕ}
 use mathlib.Core.List.{List}
-use mathlib.Core.Path.{_≡_, sym, _∙_}
+use mathlib.Core.Path.{_≡_, refl, sym, _∙_}
 use borrow.Author.Needs.{needs}
 use denote.Ref.{now}
 use Rattle.controller.specs.Received.{readIn}
 use Rattle.controller.specs.Work.Received.{noted}
+use Rattle.wire.proofs.NoPlace.{no-place}
+use Rattle.wire.specs.Found.{meaning}
 use Rattle.wire.specs.Notes.{foundBy}
 use Rattle.wire.specs.Frame.{content, bitIn}
 use Rattle.wire.specs.Tray.{part}
 use Rattle.wire.specs.declared.found.Found.the-variants.{At}
-use Rattle.controller.proofs.NoPlace.{no-place}
 use Rattle.controller.proofs.received.noted_bit.Statement.{statement}
 use Rattle.controller.proofs.received.noted_bit.Tie as tie
 
@@ -26,7 +27,8 @@ enum-known-found c = search needs
 returns : tie.Need-returns
 returns c =
     let a = c .before .before .before .args in
-    rw (no-place (now (a .tray)) (a .round) (foundBy (a .note)) (rw (c .before .found-by .ensures) at (c .match .keys2)))
+    no-place (λ f. 3 ≡ bitIn (readIn (a .round) (meaning (now (a .tray)) f))) refl refl (foundBy (a .note))
+    (rw (c .before .found-by .ensures) at (c .match .keys2))
 
 part-of-requires : tie.Need-part-of-requires
 part-of-requires c κs = search needs

@@ -2,39 +2,21 @@
 use Prim.Native.Nat.{ℕ, _+_, _-_, _≤_, _<_}
 use mathlib.Core.Bool.{Bool, true, false, _&&_}
 use mathlib.Core.List.{List}
-use mathlib.Core.Logic.{_⊎_, inl, inr}
 use mathlib.Core.Path.{_≡_, refl, sym, _∙_}
 use native.Mathlib.Omega.{arith}
 use borrow.Author.Needs.{needs}
 use borrow.Author.Tests.{le-leb, lt-leb}
-use denote.Enum.Declared.{tagOf}
 use denote.Ref.{now}
 use lib.Dec.{leb}
 use lib.ListN.{length, take, drop}
-use Rattle.wire.proofs.found.Found.{the-type}
 use Rattle.wire.specs.Found.{sameBytes}
 use Rattle.wire.specs.Notes.{foundBy, sameAt, sameFrames}
 use Rattle.wire.specs.Laws.Notes.{found-small}
 use Rattle.wire.specs.Tray.{part}
-use Rattle.wire.specs.declared.found.Found.{Found}
-use Rattle.wire.specs.declared.found.Found.the-variants.{At, Nothing, Several}
+use Rattle.wire.specs.declared.found.Found.the-variants.{At}
+use Rattle.wire.proofs.NoPlace.{no-place}
 use Rattle.wire.proofs.found.same_frames.Statement.{statement}
 use Rattle.wire.proofs.found.same_frames.Tie as tie
-
--- the cases of the two `else`
-no-first : (s : List ℕ) (f g : Found) → (tagOf the-type f ≡ 1) ⊎ (tagOf the-type f ≡ 2) → sameAt s f g ≡ false
-no-first s (At o n) g (inl e) = absurd (omega arith)
-no-first s (At o n) g (inr e) = absurd (omega arith)
-no-first s Nothing g h = refl
-no-first s Several g h = refl
-
-no-second : (s : List ℕ) (f g : Found) → (tagOf the-type g ≡ 1) ⊎ (tagOf the-type g ≡ 2) → sameAt s f g ≡ false
-no-second s (At o n) (At p m) (inl e) = absurd (omega arith)
-no-second s (At o n) (At p m) (inr e) = absurd (omega arith)
-no-second s (At o n) Nothing h = refl
-no-second s (At o n) Several h = refl
-no-second s Nothing g h = refl
-no-second s Several g h = refl
 
 -- the places of two notes
 module _ (s : List ℕ) (a b o n p m : ℕ) (first : foundBy a ≡ At o n) (second : foundBy b ≡ At p m) where
@@ -82,7 +64,7 @@ enum-known-first c = search needs
 returns : tie.Need-returns
 returns c =
     let a = given (c .before) .args in
-    sym (no-first (now (a .tray)) (foundBy (a .a)) (foundBy (a .b)) (rw (c .before .found-by .ensures) at (c .match .keys2)))
+    no-place (λ f. false ≡ sameAt (now (a .tray)) f (foundBy (a .b))) refl refl (foundBy (a .a)) (rw (c .before .found-by .ensures) at (c .match .keys2))
 
 found-by-requires-2 : tie.Need-found-by-requires-2
 found-by-requires-2 c κs = search needs
@@ -92,8 +74,11 @@ enum-known-second c = search needs
 
 returns-2 : tie.Need-returns-2
 returns-2 c =
-    let a = given (found (c .before .before)) .args in
-    sym (no-second (now (a .tray)) (foundBy (a .a)) (foundBy (a .b)) (rw (c .before .found-by2 .ensures) at (c .match2 .keys2)))
+    let told = c .before .before in
+    let a = given (found told) .args in
+    let at = first-at told in
+    no-place (λ f. false ≡ sameAt (now (a .tray)) (foundBy (a .a)) f) (rw at) (rw at) (foundBy (a .b))
+    (rw (c .before .found-by2 .ensures) at (c .match2 .keys2))
 
 add-if1 : tie.Need-add-if1
 add-if1 c =
