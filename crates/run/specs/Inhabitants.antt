@@ -1,4 +1,7 @@
--- Three runs, so that nobody need wonder whether the conditions contradict each other.
+-- Lines of controllers worked out by the machine: three runs, so that nobody need wonder whether the conditions contradict each other, and a network with
+-- 3f = n that has no outcome.
 pub mod RunTest
 pub mod Played
+pub mod Networks
 pub mod Inhabited
+pub mod ThirdFaulty

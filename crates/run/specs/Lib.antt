@@ -3,6 +3,7 @@
 -- in Proof/FirstHeard and Proof/Quiet.
 pub mod Run
 pub mod Outcome
+pub mod OneMind
 pub mod FirstHeard
 pub mod Quiet
 pub mod Proof

@@ -17,6 +17,8 @@ pub mod Calls
 pub mod Held
 pub mod RunSteps
 pub mod Agreement
+-- Beside the outcome: how often all name the same king, and how soon all have a candidate.
+pub mod OneMind
 -- Of a list of calls by itself: that the record has the round of the first tray that brought a number.
 pub mod FirstHeard
 -- Likewise: that a decided controller is quiet.

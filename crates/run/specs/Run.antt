@@ -6,7 +6,8 @@
 --     Made k t b               the call k made round t and gave the frame b
 --     Sent c t b               b is the frame that c sent for round t
 --     Delivers l f p t b       the line's guarantee for a tray b of round t to the controller p, among the proper ones l and the faulty ones f
---     Run                      a run
+--     Network l f              a run but for how many are faulty: proper ones l and faulty ones f, any number of them
+--     Run                      a run: a network with 3f < n
 -- Members of lists of records are given by `Member`, the library's membership.
 use Prim.Native.Nat.{ℕ, _+_, _*_, _≤_, _<_}
 use mathlib.Core.List.{List, [], _∷_, _++_, map, List·Memᴰ}
@@ -122,19 +123,23 @@ pub record Delivers (correct : List Controller) (faulty : List ℕ) (receiver t 
 
 -- ---- the run
 
-pub record Run : Type 0 where
-  -- "Of these f are faulty .. the others are proper"
-  pub correct : List Controller
-  pub faulty : List ℕ
+-- a run, but for how many are faulty
+pub record Network (correct : List Controller) (faulty : List ℕ) : Type 0 where
   -- "A run has n controllers, 1 to 64"
   pub size : (1 ≤ length (everyone correct faulty)) × (length (everyone correct faulty) ≤ 64)
   -- "with n different numbers, none 0"
   pub differ : NoRepeats (everyone correct faulty)
   pub nonzero : (x : ℕ) → In x (everyone correct faulty) → x ≢ 0
-  -- "with 3f < n"
-  pub few : 3 * length faulty < length (everyone correct faulty)
   -- "For each round t up to 2 + 3n for which a proper controller sent a frame, it works one tray of round t, and that tray keeps the guarantee"
   -- "Past these rounds its trays may be anything. Refused trays may be of any bytes, with any output buffer, in any number and at any place": so no
   -- field speaks of other trays
   pub works : (c : Controller) → Member c correct → (t : ℕ) → t ≤ 2 + 3 * length (everyone correct faulty) → (b : List ℕ) → Sent c t b
       → (k : TrayCall) × Member k (c .trays) × Accepted k × Delivers correct faulty (c .number) t (k .tray)
+
+pub record Run : Type 0 where
+  -- "Of these f are faulty .. the others are proper"
+  pub correct : List Controller
+  pub faulty : List ℕ
+  pub network : Network correct faulty
+  -- "with 3f < n"
+  pub few : 3 * length faulty < length (everyone correct faulty)

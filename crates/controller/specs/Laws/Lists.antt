@@ -187,21 +187,40 @@ first-search {P} {Q} (suc n) test = elim (first-search {P = P} {Q = Q} n test) [
   ]
 ]
 
--- if each of l has an image and no two have the same, there are as many images as l has numbers
-pub images-length : {Q : ℕ → ℕ → Type 0} (l : List ℕ) → NoRepeats l → ((x : ℕ) → In x l → (y : ℕ) × Q x y) → ((x z y : ℕ) → In x l → Q x y → Q z y → x ≡ z)
-    → (m : List ℕ) × NoRepeats m × (length m ≡ length l) × ((y : ℕ) → In y m → (x : ℕ) × In x l × Q x y)
-images-length [] n image apart = ([], tt, refl, λ y i. absurd (List·Memᴰ·not-nil i))
-images-length {Q} (x ∷ l) n image apart =
-    let here = image x (List·Memᴰ·head refl) in
-    let rest = images-length {Q = Q} l (n .1) (λ z i. image z (List·Memᴰ·tail i)) (λ z u y i. apart z u y (List·Memᴰ·tail i)) in (
-      here .0 ∷ rest .0,
-      (λ i. let z = rest .3 (here .0) i in n .0 (Memᴰ·cast (apart x (z .0) (here .0) (List·Memᴰ·head refl) (here .1) (z .2)) (z .1)), rest .1),
-      ap suc (rest .2),
-      λ y i. elim (List·Memᴰ·cases-cons i) [
+-- numbers to which Q takes those of l, as many as l has
+pub record Images (Q : ℕ → ℕ → Type 0) (l : List ℕ) : Type 0 where
+  pub images : List ℕ
+  pub differ : NoRepeats images
+  pub count : length images ≡ length l
+  -- each is one's image
+  pub source : (y : ℕ) → In y images → (x : ℕ) × In x l × Q x y
+  -- and each has one among them
+  pub image : (x : ℕ) → In x l → (y : ℕ) × In y images × Q x y
+
+-- there are such if each of l has an image and no two have the same
+pub images-differ : {Q : ℕ → ℕ → Type 0} (l : List ℕ) → NoRepeats l → ((x : ℕ) → In x l → (y : ℕ) × Q x y) → ((x z y : ℕ) → In x l → Q x y → Q z y → x ≡ z)
+    → Images Q l
+images-differ [] n to apart =
+    record { images = []; differ = tt; count = refl; source = λ y i. absurd (List·Memᴰ·not-nil i); image = λ x i. absurd (List·Memᴰ·not-nil i) }
+images-differ {Q} (x ∷ l) n to apart =
+    let here = to x (List·Memᴰ·head refl) in
+    let rest = images-differ {Q = Q} l (n .1) (λ z i. to z (List·Memᴰ·tail i)) (λ z u y i. apart z u y (List·Memᴰ·tail i)) in
+    record {
+      images = here .0 ∷ rest .images;
+      differ = (
+        λ i. let z = rest .source (here .0) i in n .0 (Memᴰ·cast (apart x (z .0) (here .0) (List·Memᴰ·head refl) (here .1) (z .2)) (z .1)),
+        rest .differ,
+      );
+      count = ap suc (rest .count);
+      source = λ y i. elim (List·Memᴰ·cases-cons i) [
         | inl e ↦ (x, List·Memᴰ·head refl, subst (Q x) (sym e) (here .1))
-        | inr j ↦ let z = rest .3 y j in (z .0, List·Memᴰ·tail (z .1), z .2)
-      ],
-    )
+        | inr j ↦ let z = rest .source y j in (z .0, List·Memᴰ·tail (z .1), z .2)
+      ];
+      image = λ z i. elim (List·Memᴰ·cases-cons i) [
+        | inl e ↦ (here .0, List·Memᴰ·head refl, subst (λ u. Q u (here .0)) (sym e) (here .1))
+        | inr j ↦ let y = rest .image z j in (y .0, List·Memᴰ·tail (y .1), y .2)
+      ];
+    }
 
 -- ---- keep
 

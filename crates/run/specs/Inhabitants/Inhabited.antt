@@ -1,173 +1,25 @@
--- Three runs: nobody need wonder whether the conditions of `Run` contradict each other.
---     alone         one controller, number 7 and bit 1; it gets empty trays
---     oneFaulty     document 01's last trial, as the controller's Examples has it: proper 5, 7, 9 with the bits 0, 1, 1, and faulty 3
---     apart         proper 5, 7, 9 and faulty 3, which makes them stop at different rounds: 7 and 9 decide in round 12, 5 in round 15
---     Has r f       some proper one of the run r has a call that passes f; of these `faulty-short` and the like speak
--- In each run each tray comes after bytes that are no tray, then with too small a buffer, then with room; so it goes on after a decision, where all are
--- refused. The first entry of each tray comes twice. Past round 2 + 3n there are two trays more: one with an unknown sender's entry only, and an empty one.
-use Prim.Native.Nat.{ℕ, zero, suc, _%_}
-use mathlib.Core.Bool.{Bool, true, not, cond, _&&_, _||_}
-use mathlib.Core.List.{List, [], _∷_, _++_, map}
+-- Three runs: nobody need wonder whether the conditions of `Run` contradict each other, or whether there could be more phases of one mind.
+--     alone           one controller
+--     oneFaulty       document 01's last trial
+--     apart           a faulty one makes the proper ones stop at different rounds
+--     Has r f         some proper one of the run r has a call that passes f; of these `faulty-short` and the like speak
+--     apart-tight     in this run no more phases are of one mind than there are proper ones
+use Prim.Native.Nat.{ℕ, zero, suc, _≤_, _<_}
+use mathlib.Core.Bool.{Bool, true, not, and-eq-true-iff, _&&_}
+use mathlib.Core.List.{List, [], _∷_, List·Memᴰ·head, List·Memᴰ·tail}
 use mathlib.Core.Path.{_≡_, refl}
-use lib.Dec.{eqb, leb, ltb}
+use native.Mathlib.Decide.{decLt}
+use native.Mathlib.Omega.{arith}
+use borrow.Author.Tests.{not-true, eqb-true, eqb-false}
+use lib.Dec.{eqb}
 use lib.ListN.{length}
-use Rattle.controller.specs.Bytes.{maxFrame, Entry, roundOf, entryCount, sender, wellFormed, part, entries, kindOf, chosenBy, saidBy}
-use Rattle.controller.specs.Bytes.{bitFits, maxCount, lengthFits, roundFits, headFits, bodyFits, readRefusal, content, frameBytes}
-use Rattle.controller.specs.Lists.{mem, countIf}
-use Rattle.controller.specs.Thirds.{third, twoThirds}
-use Rattle.controller.specs.State.{View, undecided, startView, same, soundRules, soundBeside, sound}
-use Rattle.controller.specs.First.{firstsAfter}
-use Rattle.controller.specs.Received.{frameOf, standIn, senders, receive}
-use Rattle.controller.specs.Rotation.{roster, tally, mentioned, echoed, joined, candidatesAfter, decides, kingAfter}
-use Rattle.controller.specs.Bit.{bitTaken, decisionAfter, valueSaid, valueTwoThirds, proposalThird, proposalTwoThirds, proposal, bitAdopted, strongAfter, opinion}
-use Rattle.controller.specs.Rules.{step, next}
-use Rattle.controller.specs.Refusals.{startRefusal, trayRefusal}
+use Rattle.controller.specs.Lists.{In, NoRepeats}
+use Rattle.controller.specs.Laws.Lists.{inside-length}
 use Rattle.run.specs.Run.{Member, TrayCall, Controller, Run}
-use Rattle.run.specs.Inhabitants.RunTest.{allPass, somePass, some-pass, deliversTest, runTest, run-tested}
-use Rattle.controller.specs.Examples.{fromThree, fromOthers, packed, starts}
-use Rattle.run.specs.Inhabitants.Played.{Input, controller}
-
--- ---- what a line brings
-
-abbrev entry : ℕ → List ℕ → Entry
-entry x b = record { sender = x; bytes = b }
-
-abbrev firstTwice : List Entry → List Entry
-firstTwice [] = []
-firstTwice (e ∷ es) = e ∷ e ∷ es
-
-abbrev junk : List ℕ
-junk = 255 ∷ 3 ∷ 0 ∷ 17 ∷ 94 ∷ 200 ∷ 1 ∷ 8 ∷ 6 ∷ []
-
-abbrev offered : List ℕ → List Input → List Input
-offered b is = record { tray = junk; room = maxFrame } ∷ record { tray = b; room = 263 } ∷ record { tray = b; room = maxFrame } ∷ is
-
--- the trays of the rounds t and t + 1, past those of the guarantee
-abbrev afterwards : ℕ → List Input
-afterwards t = offered (packed t (entry 11 junk ∷ [])) (offered (packed (suc t) []) [])
-
--- lies t p: what the faulty ones send to p in round t
-module _ (lies : ℕ → ℕ → List Entry) where
-  abbrev brought : List View → ℕ → ℕ → List Entry
-  brought vs p t = firstTwice (fromOthers p vs) ++ lies t p
-
-  abbrev stepped : List View → ℕ → List View
-  stepped vs t = map (λ (v : View). cond (undecided v) (next v (brought vs (v .own) t)) v) vs
-
-  -- p's inputs of n rounds from t on, where the proper ones have the states vs in round t, and two after these
-  abbrev inputs : ℕ → ℕ → ℕ → List View → List Input
-  inputs p t zero vs = afterwards t
-  inputs p t (suc n) vs = offered (packed t (brought vs p t)) (inputs p (suc t) n (stepped vs t))
-
--- ---- the lines
-
-abbrev nobodyLies : ℕ → ℕ → List Entry
-nobodyLies t p = []
-
-abbrev one : List Controller
-one = controller 7 1 refl (inputs nobodyLies 7 1 5 (startView 7 1 ∷ [])) ∷ []
-
--- proper 5, 7, 9 with the bits 0, 1, 1, through the rounds of a line of four
-module _ (lies : ℕ → ℕ → List Entry) where
-  abbrev inputsOf : ℕ → List Input
-  inputsOf p = inputs lies p 1 14 (starts 0 1 1)
-
-  abbrev three : List Controller
-  three = controller 5 0 refl (inputsOf 5) ∷ controller 7 1 refl (inputsOf 7) ∷ controller 9 1 refl (inputsOf 9) ∷ []
-
-abbrev joining : List Controller
-joining = three fromThree
-
--- The faulty 3 keeps itself echoed by one proper controller or two, and in round 11 gives its own voice to 5 alone: only there it has two thirds. A voice is a
--- roster or a turn that lists just 3.
-abbrev voice : ℕ → ℕ → Bool
-voice t p = (eqb t 2 && eqb p 7) || (eqb t 5 && eqb p 9) || (eqb t 8 && not (eqb p 9)) || (eqb t 11 && eqb p 5)
-
--- it sends init to 5, its voice in the rounds of lists, and void frames to whom it denies that: silence would count as the receiver's own list. With values it
--- tells 5 and 7 different things, and 9 has an entry of length 0; it is silent in the rest
-abbrev dividing : ℕ → ℕ → List Entry
-dividing t p =
-    cond (eqb t 1) (cond (eqb p 5) (entry 3 (0 ∷ 0 ∷ 0 ∷ 1 ∷ 1 ∷ 2 ∷ 0 ∷ 0 ∷ []) ∷ []) [])
-    (cond (eqb (t % 3) 2) (cond (voice t p) (entry 3 (0 ∷ 0 ∷ 0 ∷ t ∷ cond (eqb t 2) 2 5 ∷ 2 ∷ 0 ∷ 1 ∷ 0 ∷ 0 ∷ 0 ∷ 3 ∷ []) ∷ []) (entry 3 junk ∷ []))
-    (cond (eqb (t % 3) 0)
-    (cond (eqb p 9) (entry 3 [] ∷ []) (entry 3 (0 ∷ 0 ∷ 0 ∷ t ∷ 3 ∷ cond (eqb p 5) 1 0 ∷ 0 ∷ 0 ∷ []) ∷ []))
-    []))
-
-abbrev divided : List Controller
-divided = three dividing
-
--- ---- what the machine works out of them
-
--- some of l has a call that passes f
-abbrev callTest : List Controller → (Controller → TrayCall → Bool) → Bool
-callTest l f = somePass (λ (c : Controller). somePass (f c) (c .trays)) l
-
-abbrev pub refused : ℕ → TrayCall → Bool
-refused n k = eqb (k .answer .refusal) n
-
--- bytes that are no tray
-abbrev pub junked : Controller → TrayCall → Bool
-junked c k = refused 4 k
-
--- refused since the controller has decided, with the output that a frame needs: the state is not of round 195
-abbrev pub quieted : Controller → TrayCall → Bool
-quieted c k = refused 2 k && leb maxFrame (length (k .before)) && ltb (k .state .round) 195
-
--- decides in round t, having worked the tray before
-abbrev pub stops : ℕ → Controller → TrayCall → Bool
-stops t c k = refused 0 k && not (eqb (k .answer .state .decision) 2) && eqb (k .answer .state .round) t
-
--- calls of a line with the faulty 3
-module _ (line : List Controller) where
-  -- the tray keeps the guarantee for the round that the controller is in
-  abbrev pub keeps : Controller → TrayCall → Bool
-  keeps c k = deliversTest line (3 ∷ []) (c .number) (k .state .round) (k .tray)
-
-  -- a tray that keeps the guarantee is refused for want of room; another call works it
-  abbrev pub short : Controller → TrayCall → Bool
-  short c k = refused 3 k && keeps c k && somePass (λ (l : TrayCall). refused 0 l && same (l .tray) (k .tray)) (c .trays)
-
-  -- two entries under the proper number 7: both are the frame that it sent, as the tray keeps the guarantee
-  abbrev pub repeated : Controller → TrayCall → Bool
-  repeated c k = refused 0 k && keeps c k && eqb (countIf (eqb 7) (senders (entries (k .tray)))) 2
-
-  -- a tray that keeps the guarantee is worked though none of the other proper ones has an entry in it
-  abbrev pub deserted : Controller → TrayCall → Bool
-  deserted c k =
-      refused 0 k && keeps c k && allPass (λ (d : Controller). not (mem (d .number) (senders (entries (k .tray))))) line
-
-pub record Tested : Type 0 where
-  pub one-run : runTest one [] ≡ true
-  pub one-quieted : callTest one quieted ≡ true
-  pub joining-run : runTest joining (3 ∷ []) ≡ true
-  pub joining-junked : callTest joining junked ≡ true
-  pub joining-short : callTest joining (short joining) ≡ true
-  pub joining-repeated : callTest joining (repeated joining) ≡ true
-  pub divided-run : runTest divided (3 ∷ []) ≡ true
-  pub divided-first : callTest divided (stops 12) ≡ true
-  pub divided-last : callTest divided (stops 15) ≡ true
-  pub divided-deserted : callTest divided (deserted divided) ≡ true
-
-pub tested : Tested
-unfolding roundOf entryCount sender wellFormed part entries
-    kindOf chosenBy saidBy bitFits maxCount lengthFits roundFits headFits bodyFits readRefusal content frameBytes
-    third twoThirds soundRules soundBeside sound frameOf standIn receive firstsAfter roster tally mentioned echoed joined candidatesAfter decides kingAfter
-    bitTaken decisionAfter valueSaid valueTwoThirds proposalThird proposalTwoThirds proposal bitAdopted strongAfter opinion step startRefusal trayRefusal
-tested =
-    record {
-      one-run = refl;
-      one-quieted = refl;
-      joining-run = refl;
-      joining-junked = refl;
-      joining-short = refl;
-      joining-repeated = refl;
-      divided-run = refl;
-      divided-first = refl;
-      divided-last = refl;
-      divided-deserted = refl;
-    }
-
--- ---- the runs
+use Rattle.run.specs.OneMind.{SameKing}
+use Rattle.run.specs.Proof.Calls.{returned-listed}
+use Rattle.run.specs.Inhabitants.RunTest.{somePass, some-pass, run-tested}
+use Rattle.run.specs.Inhabitants.Networks.{one, joining, divided, callTest, refused, junked, quieted, stops, short, repeated, deserted, tested}
 
 abbrev pub alone : Run
 alone = run-tested one [] (tested .one-run)
@@ -209,3 +61,29 @@ apart-last = has-tested apart (stops 15) (tested .divided-last)
 
 pub apart-deserted : Has apart (deserted (apart .correct))
 apart-deserted = has-tested apart (deserted divided) (tested .divided-deserted)
+
+-- ---- how often of one mind
+
+-- one has decided in round 12, which phase 3 makes
+early-phase : {phase king : ℕ} → SameKing (apart .correct) phase king → phase < 3
+early-phase {phase} same = elim (decLt phase 3) [
+  | yes early ↦ early
+  | no late ↦
+      let (c, i, k, j, passed) = apart-first in
+      let s = k .answer .state in
+      let decided = not (eqb (s .decision) 2) in
+      let (made, round) = and-eq-true-iff (refused 0 k && decided) (eqb (s .round) 12) .0 passed in
+      let undecided = same .before c i s (returned-listed c j) (omega (arith, eqb-true (s .round) 12 round)) in
+      absurd (eqb-false _ _ (not-true _ (and-eq-true-iff (refused 0 k) decided .0 made .1)) undecided)
+]
+
+first-three : (phase : ℕ) → phase < 3 → In phase (0 ∷ 1 ∷ 2 ∷ [])
+first-three zero h = List·Memᴰ·head refl
+first-three (suc zero) h = List·Memᴰ·tail (List·Memᴰ·head refl)
+first-three (suc (suc zero)) h = List·Memᴰ·tail (List·Memᴰ·tail (List·Memᴰ·head refl))
+first-three (suc (suc (suc phase))) h = absurd (omega (arith, h))
+
+-- document 02, A12: "at least g phases", and here no more, though a faulty one lies
+pub apart-tight : (phases : List ℕ) → NoRepeats phases → ((phase : ℕ) → In phase phases → (king : ℕ) × SameKing (apart .correct) phase king)
+    → length phases ≤ length (apart .correct)
+apart-tight phases differ same = inside-length phases differ (λ phase i. first-three phase (early-phase (same phase i .1)))

@@ -1,9 +1,10 @@
--- A test that says of lists of calls that they are a run: each condition of `Run` as a Bool, so that for given lists the machine can work it out.
+-- A test that says of lists of calls that they are a run: each condition of `Network` and `Run` as a Bool, so that for given lists the machine works it out.
 --     allPass f l, somePass f l     all of l pass the test f; some of l pass it
 --     differTest l                  l has no number twice
 --     sentTest c t b                c sent the frame b for round t
 --     deliversTest l f p t b        the tray b of round t to p keeps the guarantee
---     runTest l f                   the proper ones l and the faulty ones f make a run
+--     networkTest l f               the proper ones l and the faulty ones f make a network
+--     runTest l f                   and a run: few are faulty
 use Prim.Native.Nat.{ℕ, _+_, _*_, _≤_}
 use mathlib.Core.Bool.{Bool, true, false, not, true≢false, and-eq-true-iff, or-true, _&&_, _||_}
 use mathlib.Core.List.{List, [], _∷_, List·Memᴰ·head, List·Memᴰ·tail, List·Memᴰ·cases-cons, List·Memᴰ·not-nil, Memᴰ·cast}
@@ -20,7 +21,7 @@ use Rattle.controller.specs.Calls.{sentBytes}
 use Rattle.controller.specs.Laws.Lists.{true-or-false, mem-in, mem-out}
 use Rattle.controller.specs.Laws.State.{same-gives}
 use Rattle.controller.specs.declared.state.State.{State}
-use Rattle.run.specs.Run.{Member, TrayCall, Accepted, Controller, states, Sent, everyone, Delivers, Run}
+use Rattle.run.specs.Run.{Member, TrayCall, Accepted, Controller, states, Sent, everyone, Delivers, Network, Run}
 use Rattle.run.specs.Proof.Calls.{state-sent, sent-state}
 
 -- ---- tests of lists
@@ -169,24 +170,27 @@ module _ (correct : List Controller) (faulty : List ℕ) where
       let kept = delivers-tested (c .number) (s .round) (k .tray) delivers in
       (k, j, eqb-true (k .answer .refusal) 0 accepted, subst (λ u. Delivers correct faulty (c .number) u (k .tray)) e kept)
 
-  abbrev pub runTest : Bool
-  runTest =
-      leb 1 size && leb size 64 && differTest (everyone correct faulty) && not (mem 0 (everyone correct faulty)) && ltb (3 * length faulty) size
-      && allPass worksTest correct
+  abbrev pub networkTest : Bool
+  networkTest =
+      leb 1 size && leb size 64 && differTest (everyone correct faulty) && not (mem 0 (everyone correct faulty)) && allPass worksTest correct
 
-  abbrev pub run-tested : runTest ≡ true → Run
-  run-tested h =
-      let (h₄, works) = and-eq-true-iff _ (allPass worksTest correct) .0 h in
-      let (h₃, few) = and-eq-true-iff _ (ltb (3 * length faulty) size) .0 h₄ in
+  abbrev pub network-tested : networkTest ≡ true → Network correct faulty
+  network-tested h =
+      let (h₃, works) = and-eq-true-iff _ (allPass worksTest correct) .0 h in
       let (h₂, nonzero) = and-eq-true-iff _ (not (mem 0 (everyone correct faulty))) .0 h₃ in
       let (h₁, differ) = and-eq-true-iff _ (differTest (everyone correct faulty)) .0 h₂ in
       let (some, most) = and-eq-true-iff (leb 1 size) (leb size 64) .0 h₁ in
       record {
-        correct = correct;
-        faulty = faulty;
         size = (leb-true 1 size some, leb-true size 64 most);
         differ = differ-no-repeats (everyone correct faulty) differ;
         nonzero = λ x i z. mem-out (everyone correct faulty) (not-true (mem 0 (everyone correct faulty)) nonzero) (Memᴰ·cast (sym z) i);
-        few = ltb-true (3 * length faulty) size few;
         works = λ c i. works-tested c (all-pass worksTest correct works c i);
       }
+
+  abbrev pub runTest : Bool
+  runTest = networkTest && ltb (3 * length faulty) size
+
+  abbrev pub run-tested : runTest ≡ true → Run
+  run-tested h =
+      let (network, few) = and-eq-true-iff networkTest (ltb (3 * length faulty) size) .0 h in
+      record { correct = correct; faulty = faulty; network = network-tested network; few = ltb-true (3 * length faulty) size few }

@@ -2,7 +2,7 @@
 -- agreement, validity and the lists' bounds; a decided state stays, whatever the trays.
 use Prim.Native.Nat.{ℕ, _+_, _*_, _≤_}
 use mathlib.Core.Bool.{true}
-use mathlib.Core.List.{List, Memᴰ·map}
+use mathlib.Core.List.{List}
 use mathlib.Core.Logic.{_⊎_, inl, inr, _≢_}
 use mathlib.Core.Path.{_≡_, refl, sym, ap, _∙_, subst}
 use native.Mathlib.Omega.{arith}
@@ -23,15 +23,11 @@ use Rattle.run.specs.Proof.Steps.{Steps, AtWork}
 use Rattle.run.specs.Proof.Protocol.{deadline, agree, valid, reception-fits}
 use Rattle.run.specs.Proof.Calls.{state-round, state-own, state-sound, sent-state, decides-by}
 use Rattle.run.specs.Proof.Held.{at-most}
-use Rattle.run.specs.Proof.RunSteps.{size, steps, state-held, input-at, state-at, each-number, delivers-reception, step-rules}
+use Rattle.run.specs.Proof.RunSteps.{size, steps, state-held, input-at, state-at, each-number, correct-number, delivers-reception, step-rules}
 
 module _ (r : Run) where
   open Run r using (correct, faulty)
   open Steps (steps r) using (correct as correctNumbers, input, state)
-
-  -- a proper one's number
-  correct-number : {c : Controller} → Member c correct → In (c .number) correctNumbers
-  correct-number i = Memᴰ·map (λ (c : Controller). c .number) i
 
   -- 3f < n, so somebody is proper
   somebody : (p : ℕ) × In p correctNumbers
@@ -53,7 +49,7 @@ module _ (r : Run) where
       let m = state-held r j (3 + 3 * size r) (omega arith) (omega arith) in
       let s = m .held in
       let own : decisionOf (c .number) ≡ s .decision = ap (λ (v : View). v .bit .decision) (state-at r j s (m .listed) (m .at)) in
-      let same : s .decision ≡ decisionOf p = sym own ∙ agree (steps r) (step-rules r) (c .number) p (correct-number j) i in
+      let same : s .decision ≡ decisionOf p = sym own ∙ agree (steps r) (step-rules r) (c .number) p (correct-number r j) i in
       subst (λ b. Decides (size r) b c) same (decides-by c (size r) s (m .listed) (at-most s (m .at)) (λ e. decision-made p i (sym same ∙ e)))
 
   decision-valid : (p : ℕ) → In p correctNumbers → (c : Controller) × Member c correct × (c .start .bit ≡ decisionOf p)
@@ -78,7 +74,7 @@ module _ (r : Run) where
   state-works {c} i s j h sent =
       let f = sent-state c sent in
       record {
-        member = correct-number i;
+        member = correct-number r i;
         timely = record { first = state-round c s j; last = h };
         active = ap (λ v. undecided v) (state-at r i (f .state) (f .listed) (inl (f .round))) ∙ f .active;
       }
@@ -93,15 +89,15 @@ module _ (r : Run) where
       subst (λ v. ListsFit v (entries b)) at (reception-fits (steps r) (step-rules r) p (s .round) w _ got) in
       record {
         state = state-sound c s j;
-        early = omega (arith, r .size .1, w .timely .last);
+        early = omega (arith, r .network .size .1, w .timely .last);
         active = subst (λ v. undecided v ≡ true) at (w .active);
         packed = d .packed;
         round = d .round;
-        nonzero = λ z. r .nonzero 0 (d .others 0 z .0) refl;
+        nonzero = λ z. r .network .nonzero 0 (d .others 0 z .0) refl;
         others = λ z. d .others (s .own) z .1 (state-own c s j);
-        heard = omega (arith, r .size .1);
-        candidates = omega (arith, r .size .1);
-        echoes = omega (arith, r .size .1);
+        heard = omega (arith, r .network .size .1);
+        candidates = omega (arith, r .network .size .1);
+        echoes = omega (arith, r .network .size .1);
       }
 
   refused-room : (c : Controller) → Member c correct → (k : TrayCall) → Member (k .state) (states c) → k .state .round ≤ 2 + 3 * size r
@@ -113,7 +109,7 @@ module _ (r : Run) where
       elim (true-or-false (leb maxFrame (length (k .before)))) [ inl t ↦ inl (rw t at e) | inr t ↦ inr (rw t at e) ]
 
   -- demand 3
-  pub agreement : Outcome r
+  pub agreement : Outcome correct faulty
   agreement =
       let (p, i) = somebody in
       record {

@@ -5,15 +5,15 @@ use Prim.Native.Nat.{ℕ, zero, suc, _≤_, _<_}
 use mathlib.Core.Path.{_≡_, refl, sym, ap, _∙_, subst}
 use mathlib.Core.Bool.{Bool, true, false}
 use mathlib.Core.Logic.{_⊎_, inl, inr}
-use mathlib.Core.List.{List, List·Memᴰ·not-nil}
+use mathlib.Core.List.{List·Memᴰ·not-nil}
 use native.Mathlib.Omega.{arith}
 use native.Mathlib.Decide.{decLt, le-ind}
 use lib.Dec.{ltb}
 use lib.ListN.{length}
 use borrow.Author.Tests.{le-ltb}
-use Rattle.controller.specs.Lists.{In, Inside, NoRepeats, mem, countIf}
+use Rattle.controller.specs.Lists.{In, Inside, mem, countIf}
 use Rattle.controller.specs.Laws.Lists.{true-or-false, in-mem, in-or-not, count-inside, count-short, no-repeats-left, inside-length}
-use Rattle.controller.specs.Laws.Lists.{rising-no-repeats, rising-place, list-search, first-search, images-length}
+use Rattle.controller.specs.Laws.Lists.{rising-no-repeats, rising-place, list-search, first-search, Images, images-differ}
 use Rattle.run.specs.Proof.Counting.{two-thirds-then-third, two-thirds-carry, all-reach, third-inside}
 use Rattle.run.specs.Proof.Rotation.{Rotation, members, memberCount, Works, mentions, ListTwoThirds}
 use Rattle.run.specs.Proof.Rotation.{RotationRules, AllWork, Undecided, Relayed, CommonKing}
@@ -177,10 +177,9 @@ module _ (R : Rotation) (K : RotationRules R) where
   pub common-king-one : {k l r : ℕ} → In k correct → CommonKing R k r → CommonKing R l r → k ≡ l
   common-king-one {k} i c d = sym (c .all-name k (watch k i)) ∙ d .all-name k (watch k i)
 
-  -- before anybody decides there are as many phases with a common correct king as correct ones
-  pub common-phases : (phases : List ℕ) × NoRepeats phases × (length phases ≡ length correct)
-      × ((r : ℕ) → In r phases → (k : ℕ) × In k correct × CommonKing R k r)
-  common-phases = images-length {Q = CommonKing R} correct (no-repeats-left correct faulty apart) common-king (λ k l r i. common-king-one i)
+  -- before anybody decides there are as many phases with a common correct king as correct ones, and each is the king of one of them
+  pub common-phases : Images (CommonKing R) correct
+  common-phases = images-differ {Q = CommonKing R} correct (no-repeats-left correct faulty apart) common-king (λ k l r i. common-king-one i)
 
   -- ---- the deadline
 

@@ -52,7 +52,11 @@ module _ (r : Run) where
   -- what is looked up by a proper one's number is that one's
   by-number : {B : Type 0} (g : Controller → B) (d : B) (c : Controller) → Member c correct → lookup (numbered (c .number)) g d correct ≡ g c
   by-number g d c i = lookup-finds (numbered (c .number)) g d correct i (eq-eqb (c .number) (c .number) refl)
-      (λ y j t. ap g (number-one correct (no-repeats-left (numbers correct) faulty (r .differ)) y c j i (eqb-true _ _ t)))
+      (λ y j t. ap g (number-one correct (no-repeats-left (numbers correct) faulty (r .network .differ)) y c j i (eqb-true _ _ t)))
+
+  -- a proper one's number
+  pub correct-number : {c : Controller} → Member c correct → In (c .number) (numbers correct)
+  correct-number i = Memᴰ·map numberOf i
 
   -- ---- round by round
 
@@ -66,7 +70,7 @@ module _ (r : Run) where
   call-at-state : {c : Controller} → Member c correct → (t : ℕ) → t ≤ 2 + 3 * size → (s : State) → Member s (states c) → s .round ≡ t
       → undecided (view s) ≡ true → RoundCall c t
   call-at-state {c} i t h s j e u =
-      let w = r .works c i t h (sentBytes (view s)) (subst (λ u. Sent c u (sentBytes (view s))) e (state-sent c s j u)) in
+      let w = r .network .works c i t h (sentBytes (view s)) (subst (λ u. Sent c u (sentBytes (view s))) e (state-sent c s j u)) in
       record {
         call = w .0;
         listed = w .1;
@@ -211,7 +215,7 @@ module _ (r : Run) where
         (λ c i. elim (ℕ-discrete (c .number) p) [
           | yes e ↦ heard-in v es .1 (inr (Memᴰ·cast (e ∙ sym (me .own)) (me .sound .hears-itself)))
           | no ne ↦
-              let j : In (c .number) (numbers correct) = Memᴰ·map numberOf i in
+              let j = correct-number i in
               elim (true-or-false (undecided (state (c .number) t))) [
                 | inl u ↦ heard-in v es .1 (inl (sent-present i ne (record { member = j; timely = w .timely; active = u })))
                 | inr quiet ↦ heard-in v es .1 (inr (before (c .number) j quiet))
@@ -292,8 +296,8 @@ module _ (r : Run) where
   pub step-rules : StepRules steps
   step-rules =
       record {
-        differ = r .differ;
-        nonzero = r .nonzero;
+        differ = r .network .differ;
+        nonzero = r .network .nonzero;
         few = r .few;
         begins = begins;
         a-bit = each-number (λ p. input p ≤ 1) (λ c i. rw (input-at i) (start-bit c));

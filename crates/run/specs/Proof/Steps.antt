@@ -1,6 +1,7 @@
 -- A run as steps of the published rules: what the calls of a run come to, without bytes, trays, refusals or buffers.
 --     Steps                  each correct one's states, round by round, and what it received
 --     Active S p t           p has not decided by round t: it sends a frame for it and works a tray of it
+--     AllActive S t          no correct one has decided by round t
 --     AtWork S p t           the correct p is active in round t, whose tray keeps the guarantee
 --     Reception S p t r      r is what p receives with a tray of round t that keeps the line's guarantee: from the correct ones just the frames that they sent,
 --                            and p's own, without its opinion, for each that has gone quiet
@@ -36,6 +37,9 @@ module _ (S : Steps) where
 
   abbrev pub Active : ℕ → ℕ → Type 0
   Active p t = undecided (state p t) ≡ true
+
+  abbrev pub AllActive : ℕ → Type 0
+  AllActive t = (p : ℕ) → In p correct → Active p t
 
   pub record Reception (p t : ℕ) (r : Received) : Type 0 where
     pub rises : Rising (r .heard)

@@ -6,6 +6,7 @@ use mathlib.Core.List.{[], List·Memᴰ·not-nil, List·Memᴰ·eq-of-singleton,
 use mathlib.Core.Logic.{inl, inr}
 use mathlib.Core.Option.{some}
 use mathlib.Core.Path.{_≡_, refl, sym, subst}
+use native.Mathlib.Decide.{le-ind}
 use native.Mathlib.Omega.{arith}
 use lib.Dec.{ltb}
 use lib.ListN.{length, length-append}
@@ -117,6 +118,18 @@ module _ (S : Steps) where
     lists-inside = timely-holds (λ t. (p : ℕ) → In p correct → ListsInside (state p t))
         (λ p i. rw (begins p i) (λ x j. absurd (List·Memᴰ·not-nil j), λ x j. absurd (List·Memᴰ·not-nil j)))
         (λ t h before p i. kept-next ListsInside i h (before p i) (λ w. step-lists-inside i h before (receives p t w)))
+
+    -- a candidate stays one
+    pub candidate-stays : {p s x : ℕ} → In p correct → 1 ≤ s → (t : ℕ) → s ≤ t → Timely S t → In x ((state p s) .rotor .candidates)
+        → In x ((state p t) .rotor .candidates)
+    candidate-stays {p} {s} {x} i first t l h c =
+        le-ind (λ t. Timely S t → In x ((state p t) .rotor .candidates)) (λ h. c)
+        (λ t l before h.
+        let now : Timely S t = record { first = omega arith; last = omega (arith, h .last) } in
+        let old = before now in
+        kept-next (λ v. In x (v .rotor .candidates)) i now old
+        (λ w. step-any (λ v. In x (v .rotor .candidates)) (state p t) (received p t)
+        old (candidates-in _ (lists (received p t)) (somebody-heard i (receives p t w)) .1 (inl old)) old old)) t l h
 
     step-lists-rise : {p t : ℕ} {r : Received} → AtWork S p t → Reception S p t r
         → Rising ((step (state p t) r) .rotor .candidates) × Rising ((step (state p t) r) .rotor .echoes)
