@@ -24,7 +24,8 @@
 //! - [`records`]: damage to the record of first rounds, and what trays did to it;
 //! - [`quiet`]: damage to the bit said, decided states, and silence in trays;
 //! - [`network`], [`adversary`]: a whole network, and what its faulty ones send;
-//!   [`stagger`], how they make correct ones stop at different rounds;
+//!   [`stagger`], how they make correct ones stop at different rounds; [`minds`], how
+//!   often the correct ones are of one mind;
 //! - [`seeds`]: a case of the comparison or a run of a network, by its seed.
 
 #![forbid(unsafe_code)]
@@ -38,6 +39,7 @@ pub mod edges;
 pub mod fields;
 pub mod frames;
 pub mod hex;
+pub mod minds;
 pub mod network;
 pub mod packing;
 pub mod page;

@@ -8,13 +8,15 @@
 //! agreement, a decision that is some correct one's input, the deadline, a decision that
 //! stays, and no refusal but under 3; and, of a quiet one, that it writes nothing and
 //! refuses every tray under 2. After each round each state's record of first rounds is
-//! held against the trays handed over.
+//! held against the trays handed over; at the end it is seen how often all were of one
+//! mind.
 
 use std::collections::BTreeMap;
 use std::marker::PhantomData;
 
 use crate::calls::Calls;
 use crate::fields::{Fields, IMAGE_LEN};
+use crate::minds::Minds;
 use crate::packing::{numbers_in, pack, unpack, Entry, NONE};
 use crate::random::Random;
 use crate::trays;
@@ -94,6 +96,9 @@ pub struct Seen {
     pub heard_by_some: usize,
     /// The rounds in which the first and the last correct one went quiet.
     pub stops: Option<(u32, u32)>,
+    /// In how many phases more than there are correct ones all named the same correct
+    /// king, before the first decision.
+    pub more_minds: usize,
 }
 
 impl Seen {
@@ -115,6 +120,7 @@ pub struct Network<C> {
     /// How many there are, the faulty ones included.
     size: usize,
     round: u32,
+    minds: Minds,
     random: Random,
     engine: PhantomData<C>,
 }
@@ -142,6 +148,7 @@ impl<C: Calls> Network<C> {
             seen: Seen::default(),
             size: correct.len() + faulty,
             round: 1,
+            minds: Minds::default(),
             random: Random::new(seed),
             engine: PhantomData,
         })
@@ -159,6 +166,7 @@ impl<C: Calls> Network<C> {
         }
         self.check_end()?;
         self.check_shown()?;
+        self.check_minds()?;
         self.go_on()
     }
 
@@ -205,6 +213,16 @@ impl<C: Calls> Network<C> {
         if now.iter().any(|s| s.bit != now[0].bit) {
             self.seen.last_divided = self.round;
         }
+        if self.round % 3 == 0 {
+            self.minds.phase(&now);
+        }
+    }
+
+    /// There were phases enough of one mind. Also notes how many more.
+    fn check_minds(&mut self) -> Result<(), String> {
+        let numbers: Vec<u32> = self.correct.iter().map(|p| p.number).collect();
+        self.seen.more_minds = self.minds.check(&numbers)? - numbers.len();
+        Ok(())
     }
 
     /// The calls show the records. Also notes who was heard late, or not by all.

@@ -37,13 +37,15 @@ fn run_sizes(sizes: RangeInclusive<usize>, runs: u64) {
     let kings = all.iter().filter(|seen| seen.kings_differed).count();
     let late = all.iter().filter(|seen| seen.last_join > 3).count();
     let divided = all.iter().filter(|seen| seen.last_divided >= 9).count();
+    let minds = all.iter().filter(|seen| seen.more_minds > 0).count();
     println!(
         "sizes {sizes:?}, {} runs: kings differed in {kings}, a candidate joined late in {late}, \
-         bits differed past phase 1 in {divided}, correct ones stopped apart in {}",
+         bits differed past phase 1 in {divided}, correct ones stopped apart in {}, more phases \
+         of one mind than correct ones in {minds}",
         all.len(),
         stopped_apart(&all)
     );
-    assert!(kings > 0 && late > 0 && divided > 0);
+    assert!(kings > 0 && late > 0 && divided > 0 && 0 < minds && minds < all.len());
 }
 
 /// In how many runs correct ones stopped at different rounds.
@@ -129,12 +131,34 @@ fn a_faulty_third_breaks_agreement() {
         (6, 2, "not all decided"),
         (6, 2, "no agreement"),
         (7, 3, "no correct one"),
+        (7, 3, "not of one mind"),
+        (7, 3, "not relayed"),
     ];
     for (size, faulty, claim) in cases {
         let found = broken::<Engine>(size, faulty, claim);
         println!("{size} with {faulty} faulty: {found:?}");
         assert!(found.is_some(), "{size} with {faulty} faulty: {claim}");
     }
+}
+
+/// Agrees with each: tells it the bit that it brought in itself.
+struct Flattering;
+
+impl Adversary for Flattering {
+    fn entries(&mut self, view: &View, receiver: usize) -> Vec<Entry> {
+        let own = view.correct[receiver].input;
+        let bit = if view.round < 3 { NONE } else { own };
+        let bytes = frame(view.round, bit, &[]);
+        vec![Entry { sender: 3, bytes }]
+    }
+}
+
+/// Correct 5 and 7 and faulty 3, a third of the line: each decides for itself.
+#[test]
+fn a_flattering_third_divides() {
+    let mut network = Network::<Engine>::start(&[(5, 0), (7, 1)], 1, 1).expect("a start");
+    let end = network.run(&mut Flattering);
+    assert_eq!(end, Err("no agreement: [0, 1]".to_string()));
 }
 
 /// The faulty one of document 01's last trial, with document 02's void frame: an empty

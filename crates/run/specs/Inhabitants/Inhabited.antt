@@ -19,7 +19,7 @@ use Rattle.run.specs.Run.{Member, TrayCall, Controller, Run}
 use Rattle.run.specs.OneMind.{SameKing}
 use Rattle.run.specs.Proof.Calls.{returned-listed}
 use Rattle.run.specs.Inhabitants.RunTest.{somePass, some-pass, run-tested}
-use Rattle.run.specs.Inhabitants.Networks.{one, joining, divided, callTest, refused, junked, quieted, stops, short, repeated, deserted, tested}
+use Rattle.run.specs.Inhabitants.Networks.{one, joining, divided, callTest, refused, junked, quieted, stops, knows, lacks, short, repeated, deserted, tested}
 
 abbrev pub alone : Run
 alone = run-tested one [] (tested .one-run)
@@ -51,6 +51,13 @@ faulty-short = has-tested oneFaulty (short joining) (tested .joining-short)
 
 pub faulty-repeated : Has oneFaulty (repeated (oneFaulty .correct))
 faulty-repeated = has-tested oneFaulty (repeated joining) (tested .joining-repeated)
+
+-- "by the next phase", since not in the same: in phase 0, which makes round 3, one has the candidate 3 and another has not
+pub faulty-knows : Has oneFaulty (knows 3 3)
+faulty-knows = has-tested oneFaulty (knows 3 3) (tested .joining-knows)
+
+pub faulty-lacks : Has oneFaulty (lacks 3 3)
+faulty-lacks = has-tested oneFaulty (lacks 3 3) (tested .joining-lacks)
 
 -- "when proper controllers stop at different rounds"
 pub apart-first : Has apart (stops 12)

@@ -25,6 +25,7 @@ use Rattle.controller.specs.Rules.{step, next}
 use Rattle.controller.specs.Refusals.{startRefusal, trayRefusal}
 use Rattle.controller.specs.declared.state.State.{State}
 use Rattle.run.specs.Run.{TrayCall, Controller, states}
+use Rattle.run.specs.OneMind.{candidates}
 use Rattle.run.specs.Inhabitants.RunTest.{allPass, somePass, deliversTest, networkTest, runTest}
 use Rattle.controller.specs.Examples.{fromThree, fromOthers, packed, starts}
 use Rattle.run.specs.Inhabitants.Played.{Input, controller}
@@ -105,7 +106,7 @@ dividing t p =
 abbrev pub divided : List Controller
 divided = three dividing
 
--- From round 3 on the faulty 3 tells each that it has the other's own bit: with it each has two of three voices for its bit, which are two thirds.
+-- From round 3 on the faulty 3 agrees with each: it tells it the bit that it brought in itself. So each has two of three voices for its bit, two thirds.
 abbrev flattering : ℕ → ℕ → List Entry
 flattering t p = tells t (cond (ltb t 3) 2 (cond (eqb p 5) 0 1))
 
@@ -143,6 +144,13 @@ quieted c k = refused 2 k && leb maxFrame (length (k .before)) && ltb (k .state 
 abbrev pub stops : ℕ → Controller → TrayCall → Bool
 stops t c k = refused 0 k && not (eqb (k .answer .state .decision) 2) && eqb (k .answer .state .round) t
 
+-- makes round t, and then has the candidate x, or has it not
+abbrev pub knows : ℕ → ℕ → Controller → TrayCall → Bool
+knows t x c k = refused 0 k && eqb (k .answer .state .round) t && mem x (candidates (k .answer .state))
+
+abbrev pub lacks : ℕ → ℕ → Controller → TrayCall → Bool
+lacks t x c k = refused 0 k && eqb (k .answer .state .round) t && not (mem x (candidates (k .answer .state)))
+
 -- calls of a line with the faulty 3
 module _ (line : List Controller) where
   -- the tray keeps the guarantee for the round that the controller is in
@@ -173,6 +181,8 @@ pub record Tested : Type 0 where
   pub joining-junked : callTest joining junked ≡ true
   pub joining-short : callTest joining (short joining) ≡ true
   pub joining-repeated : callTest joining (repeated joining) ≡ true
+  pub joining-knows : callTest joining (knows 3 3) ≡ true
+  pub joining-lacks : callTest joining (lacks 3 3) ≡ true
   pub divided-run : runTest divided (3 ∷ []) ≡ true
   pub divided-first : callTest divided (stops 12) ≡ true
   pub divided-last : callTest divided (stops 15) ≡ true
@@ -194,6 +204,8 @@ tested =
       joining-junked = refl;
       joining-short = refl;
       joining-repeated = refl;
+      joining-knows = refl;
+      joining-lacks = refl;
       divided-run = refl;
       divided-first = refl;
       divided-last = refl;

@@ -1,5 +1,5 @@
 -- Why demand 3 wants 3f < n: with 3f = n there is a network that meets every other condition of a run, and in it two proper controllers decide differently.
--- Each of the two is told in every round that the faulty third has its own bit.
+-- The faulty third agrees with each of the two in every round.
 --     bound-needed      not every network with 3f ≤ n has the outcome that every run has
 use Prim.Native.Nat.{ℕ, _*_, _≤_}
 use mathlib.Core.List.{List, [], _∷_, _++_, List·Memᴰ·head, List·Memᴰ·tail, List·Memᴰ·cases-cons, List·Memᴰ·append-cases, Memᴰ·append-right}

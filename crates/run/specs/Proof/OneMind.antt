@@ -56,15 +56,8 @@ module _ (r : Run) where
 
   -- ---- a controller's one state of a round
 
-  in-round : {c : Controller} → Member c correct → {t : ℕ} (s : State) → Member s (states c) → s .round ≡ t
-      → (P : View → Type 0) → P (state (c .number) t) → InRound c t (λ u. P (view u))
-  in-round {c} i s j e P has = record {
-    state = s;
-    listed = j;
-    round = e;
-    has = subst P (state-at r i s j (inl e)) has;
-    only = λ u k f. state-one c u s k j (f ∙ sym e);
-  }
+  in-round : {c : Controller} {t : ℕ} {P : State → Type 0} → (s : State) → Member s (states c) → s .round ≡ t → P s → InRound c t P
+  in-round {c} s i e has = record { state = s; listed = i; round = e; has = has; only = λ u j f. state-one c u s j i (f ∙ sym e) }
 
   same-king : {phase king : ℕ} → CommonKing (rotation (steps r)) king phase → SameKing correct phase king
   same-king {phase} {king} common =
@@ -72,10 +65,12 @@ module _ (r : Run) where
       record {
         before = active-nobody (3 + 3 * phase) active;
         named = λ c i.
+            let j = correct-number r i in
             let m = state-held r i (3 + 3 * phase) (omega arith) (omega (arith, common .early)) in
-            let u = subst (λ v. undecided v ≡ true) (state-at r i (m .held) (m .listed) (m .at)) (active (c .number) (correct-number r i)) in
-            in-round i (m .held) (m .listed) (of-round (m .held) (m .at) u) (λ v. v .rotor .king ≡ king)
-            (common-named (steps r) (step-rules r) common (c .number) (correct-number r i));
+            let at = state-at r i (m .held) (m .listed) (m .at) in
+            let u = subst (λ v. undecided v ≡ true) at (active (c .number) j) in
+            let named = common-named (steps r) (step-rules r) common (c .number) j in
+            in-round (m .held) (m .listed) (of-round (m .held) (m .at) u) (subst (λ (v : View). v .rotor .king ≡ king) at named);
       }
 
   relayed : RelayedByNext correct
@@ -83,10 +78,13 @@ module _ (r : Run) where
       let h = nobody-early i phase nobody in
       let active = nobody-active (3 + 3 * phase) (omega arith) (omega arith) nobody in
       let call = call-made r k (5 + 3 * phase) (works-phase (steps r) (step-rules r) h active (d .number) (correct-number r k)) in
-      let made = accepted-round (call .call) (call .accepted) in
-      in-round k (call .call .answer .state) (returned-listed d (call .listed)) (omega (arith, made, call .round)) (λ v. In x (v .rotor .candidates))
-      (candidate-relayed (steps r) (step-rules r) h active (correct-number r i) (correct-number r k) (state-round c s j) early
-      (subst (λ (v : View). In x (v .rotor .candidates)) (sym (state-at r i s j (inl refl))) has))
+      let made = call .call .answer .state in
+      let listed = returned-listed d (call .listed) in
+      let round : made .round ≡ suc (5 + 3 * phase) = accepted-round (call .call) (call .accepted) ∙ ap suc (call .round) in
+      let Has : View → Type 0 = λ v. In x (v .rotor .candidates) in
+      let given = subst Has (sym (state-at r i s j (inl refl))) has in
+      let then = candidate-relayed (steps r) (step-rules r) h active (correct-number r i) (correct-number r k) (state-round c s j) early given in
+      in-round made listed (omega (arith, round)) (subst Has (state-at r k made listed (inl (omega (arith, round)))) then)
 
   -- document 02's A12
   pub one-mind : OneMind correct
@@ -95,7 +93,7 @@ module _ (r : Run) where
       record {
         phases = common .images;
         differ = common .differ;
-        count = common .count ∙ length-map correct numberOf;
+        count = omega (arith, common .count, length-map correct numberOf);
         kings = λ phase i.
             let (k, j, all-name) = common .source phase i in
             each-number r (λ q. CommonKing (rotation (steps r)) q phase → (c : Controller) × Member c correct × SameKing correct phase (c .number))

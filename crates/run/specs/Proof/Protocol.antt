@@ -1,6 +1,7 @@
 -- What the protocol gives of steps of the published rules: a decision by round 3 + 3n, the same for all, and brought in by a correct one; and before anybody
--- decides, what a common king of the rotation is, and the relay of candidates.
--- Serves document 01's "The run of demand 3" and document 02's "A12. How often the line was truly of one mind". The steps are a coordinator rotation and a bit instance over it; the rest is their laws.
+-- decides, what all have of a common king, and the relay of candidates.
+-- Serves document 01's "The run of demand 3" and document 02's "A12. How often the line was truly of one mind". The steps are a coordinator rotation and a
+-- bit instance over it; the rest is their laws.
 use Prim.Native.Nat.{ℕ, suc, _+_, _*_, _≤_, _<_}
 use mathlib.Core.Bool.{true, false}
 use mathlib.Core.Path.{_≡_, refl, ap, sym, _∙_, subst}
