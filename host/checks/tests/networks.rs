@@ -27,7 +27,18 @@ fn run_all(sizes: RangeInclusive<usize>, runs: u64, make: MakeAdversary) -> Vec<
             seed += 1;
         }
     }
+    println!(
+        "more phases of one mind than correct ones in {} of {} runs",
+        more_minds(&all),
+        all.len()
+    );
     all
+}
+
+/// In how many runs all correct ones named the same correct king in more phases than there
+/// are correct ones.
+fn more_minds(all: &[Seen]) -> usize {
+    all.iter().filter(|seen| seen.more_minds > 0).count()
 }
 
 /// Runs against faulty ones of all kinds. Also makes sure that they did bring something
@@ -37,15 +48,14 @@ fn run_sizes(sizes: RangeInclusive<usize>, runs: u64) {
     let kings = all.iter().filter(|seen| seen.kings_differed).count();
     let late = all.iter().filter(|seen| seen.last_join > 3).count();
     let divided = all.iter().filter(|seen| seen.last_divided >= 9).count();
-    let minds = all.iter().filter(|seen| seen.more_minds > 0).count();
     println!(
         "sizes {sizes:?}, {} runs: kings differed in {kings}, a candidate joined late in {late}, \
-         bits differed past phase 1 in {divided}, correct ones stopped apart in {}, more phases \
-         of one mind than correct ones in {minds}",
+         bits differed past phase 1 in {divided}, correct ones stopped apart in {}",
         all.len(),
         stopped_apart(&all)
     );
-    assert!(kings > 0 && late > 0 && divided > 0 && 0 < minds && minds < all.len());
+    assert!(kings > 0 && late > 0 && divided > 0);
+    assert!((1..all.len()).contains(&more_minds(&all)));
 }
 
 /// In how many runs correct ones stopped at different rounds.
@@ -156,9 +166,12 @@ impl Adversary for Flattering {
 /// Correct 5 and 7 and faulty 3, a third of the line: each decides for itself.
 #[test]
 fn a_flattering_third_divides() {
-    let mut network = Network::<Engine>::start(&[(5, 0), (7, 1)], 1, 1).expect("a start");
-    let end = network.run(&mut Flattering);
-    assert_eq!(end, Err("no agreement: [0, 1]".to_string()));
+    for bits in [[0, 1], [1, 0]] {
+        let correct = [(5, bits[0]), (7, bits[1])];
+        let mut network = Network::<Engine>::start(&correct, 1, 1).expect("a start");
+        let end = network.run(&mut Flattering);
+        assert_eq!(end, Err(format!("no agreement: {bits:?}")));
+    }
 }
 
 /// The faulty one of document 01's last trial, with document 02's void frame: an empty

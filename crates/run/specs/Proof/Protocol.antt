@@ -55,12 +55,15 @@ module _ (S : Steps) (K : StepRules S) where
 
   -- ---- before anybody decides
 
+  -- in the phase of a common king nobody has decided
   pub common-active : {k r : ℕ} → CommonKing (rotation S) k r → AllActive S (3 + 3 * r)
   common-active {r = r} c p i = ap (λ v. undecided v) (phase-state p r) ∙ not-false _ (c .before p i)
 
+  -- and all have it as their king
   pub common-named : {k r : ℕ} → CommonKing (rotation S) k r → (p : ℕ) → In p correct → (state p (3 + 3 * r)) .rotor .king ≡ k
   common-named {r = r} c p i = ap (λ v. v .rotor .king) (phase-state p r) ∙ c .all-name p i
 
+  -- a phase in which nobody has decided yet
   module _ {r : ℕ} (h : r < length (all S)) (active : AllActive S (3 + 3 * r)) where
     all-work : AllWork (rotation S) (suc r)
     all-work p i = works-alive S K i h (ap (λ v. undecided v) (sym (phase-state p r)) ∙ active p i)
