@@ -1,4 +1,4 @@
--- Three runs: nobody need wonder whether the conditions of `Run` contradict each other, or whether there could be more phases of one mind.
+-- Three runs: nobody need wonder whether the conditions of `Run` contradict each other, or whether more phases of one mind could be claimed.
 --     alone           one controller
 --     oneFaulty       document 01's last trial
 --     apart           a faulty one makes the proper ones stop at different rounds
