@@ -3,7 +3,7 @@
 --     NobodyDecided l t        up to round t no state of the proper ones l has a decision
 --     InRound c t P            c has a state of round t, just one, and it has the property P
 --     SameKing l r k           before any of l decided, all of l named the king k in phase r: in making round 3 + 3r
---     RelayedByNext l          a candidate of one of l, before any of them decided, is a candidate of all of l in the next phase
+--     RelayedAfter n l         a candidate of one of l, before any of them decided, is a candidate of all of l in their states n phases later
 --     OneMind l                the claim, of the proper ones l of a run
 use Prim.Native.Nat.{ℕ, suc, _+_, _*_, _≤_, _<_}
 use mathlib.Core.List.{List}
@@ -34,12 +34,12 @@ pub record SameKing (correct : List Controller) (phase king : ℕ) : Type 0 wher
   pub before : NobodyDecided correct (3 + 3 * phase)
   pub named : (c : Controller) → Member c correct → InRound c (3 + 3 * phase) (λ s. s .king ≡ king)
 
--- "a number that becomes a proper controller's candidate before that is every proper one's candidate by the next phase", which may be the one of its decision
-abbrev pub RelayedByNext : List Controller → Type 0
-RelayedByNext correct = (phase : ℕ) → NobodyDecided correct (3 + 3 * phase)
+-- of any state of the phase or before it, so long as nobody has decided in the phase
+abbrev pub RelayedAfter : ℕ → List Controller → Type 0
+RelayedAfter later correct = (phase : ℕ) → NobodyDecided correct (3 + 3 * phase)
     → (c : Controller) → Member c correct → (s : State) → Member s (states c) → s .round < 3 + 3 * suc phase
     → (x : ℕ) → In x (candidates s)
-    → (d : Controller) → Member d correct → InRound d (3 + 3 * suc phase) (λ u. In x (candidates u))
+    → (d : Controller) → Member d correct → InRound d (3 + 3 * (phase + later)) (λ u. In x (candidates u))
 
 pub record OneMind (correct : List Controller) : Type 0 where
   -- "with g proper controllers, before the first proper one decides there were at least g phases in which all proper controllers named the same proper king"
@@ -49,4 +49,5 @@ pub record OneMind (correct : List Controller) : Type 0 where
   pub kings : (phase : ℕ) → In phase phases → (c : Controller) × Member c correct × SameKing correct phase (c .number)
   -- more than that: each proper one is the king of one of them
   pub each : (c : Controller) → Member c correct → (phase : ℕ) × In phase phases × SameKing correct phase (c .number)
-  pub relayed : RelayedByNext correct
+  -- "a number that becomes a proper controller's candidate before that is every proper one's candidate by the next phase", which may be that of its decision
+  pub relayed : RelayedAfter 1 correct

@@ -1,25 +1,28 @@
--- Three runs: nobody need wonder whether the conditions of `Run` contradict each other, or whether more phases of one mind could be claimed.
+-- Three runs: nobody need wonder whether the conditions of `Run` contradict each other, or whether more could be claimed of one mind.
 --     alone           one controller
 --     oneFaulty       document 01's last trial
 --     apart           a faulty one makes the proper ones stop at different rounds
 --     Has r f         some proper one of the run r has a call that passes f; of these `faulty-short` and the like speak
---     apart-tight     in this run no more phases are of one mind than there are proper ones
+--     apart-tight     in the run `apart` no more phases are of one mind than there are proper ones
+--     faulty-later    in the run `oneFaulty` a candidate of one is not everyone's in the same phase
 use Prim.Native.Nat.{ℕ, zero, suc, _≤_, _<_}
 use mathlib.Core.Bool.{Bool, true, not, and-eq-true-iff, _&&_}
 use mathlib.Core.List.{List, [], _∷_, List·Memᴰ·head, List·Memᴰ·tail}
-use mathlib.Core.Path.{_≡_, refl}
+use mathlib.Core.Path.{_≡_, refl, sym, subst}
 use native.Mathlib.Decide.{decLt}
 use native.Mathlib.Omega.{arith}
-use borrow.Author.Tests.{not-true, eqb-true, eqb-false}
-use lib.Dec.{eqb}
+use borrow.Author.Tests.{not-true, eqb-true, eqb-false, le-ltb}
+use lib.Dec.{eqb, ltb}
 use lib.ListN.{length}
-use Rattle.controller.specs.Lists.{In, NoRepeats}
-use Rattle.controller.specs.Laws.Lists.{inside-length}
-use Rattle.run.specs.Run.{Member, TrayCall, Controller, Run}
-use Rattle.run.specs.OneMind.{SameKing}
+use Rattle.controller.specs.Lists.{In, NoRepeats, mem}
+use Rattle.controller.specs.Laws.Lists.{mem-in, mem-out, inside-length}
+use Rattle.controller.specs.declared.state.State.{State}
+use Rattle.run.specs.Run.{Member, TrayCall, Controller, states, Run}
+use Rattle.run.specs.OneMind.{candidates, NobodyDecided, SameKing, RelayedAfter}
 use Rattle.run.specs.Proof.Calls.{returned-listed}
-use Rattle.run.specs.Inhabitants.RunTest.{somePass, some-pass, run-tested}
-use Rattle.run.specs.Inhabitants.Networks.{one, joining, divided, callTest, refused, junked, quieted, stops, knows, lacks, short, repeated, deserted, tested}
+use Rattle.run.specs.Inhabitants.RunTest.{allPass, somePass, all-pass, some-pass, or-right, run-tested}
+use Rattle.run.specs.Inhabitants.Networks.{one, joining, divided, callTest, refused, junked, quieted, stops, short, repeated, deserted}
+use Rattle.run.specs.Inhabitants.Networks.{undecidedTest, knows, lacks, tested}
 
 abbrev pub alone : Run
 alone = run-tested one [] (tested .one-run)
@@ -52,13 +55,6 @@ faulty-short = has-tested oneFaulty (short joining) (tested .joining-short)
 pub faulty-repeated : Has oneFaulty (repeated (oneFaulty .correct))
 faulty-repeated = has-tested oneFaulty (repeated joining) (tested .joining-repeated)
 
--- "by the next phase", since not in the same: in phase 0, which makes round 3, one has the candidate 3 and another has not
-pub faulty-knows : Has oneFaulty (knows 3 3)
-faulty-knows = has-tested oneFaulty (knows 3 3) (tested .joining-knows)
-
-pub faulty-lacks : Has oneFaulty (lacks 3 3)
-faulty-lacks = has-tested oneFaulty (lacks 3 3) (tested .joining-lacks)
-
 -- "when proper controllers stop at different rounds"
 pub apart-first : Has apart (stops 12)
 apart-first = has-tested apart (stops 12) (tested .divided-first)
@@ -69,7 +65,7 @@ apart-last = has-tested apart (stops 15) (tested .divided-last)
 pub apart-deserted : Has apart (deserted (apart .correct))
 apart-deserted = has-tested apart (deserted divided) (tested .divided-deserted)
 
--- ---- how often of one mind
+-- ---- how often of one mind, and how soon
 
 -- one has decided in round 12, which phase 3 makes
 early-phase : {phase king : ℕ} → SameKing (apart .correct) phase king → phase < 3
@@ -94,3 +90,20 @@ first-three (suc (suc (suc phase))) h = absurd (omega (arith, h))
 pub apart-tight : (phases : List ℕ) → NoRepeats phases → ((phase : ℕ) → In phase phases → (king : ℕ) × SameKing (apart .correct) phase king)
     → length phases ≤ length (apart .correct)
 apart-tight phases differ same = inside-length phases differ (λ phase i. first-three phase (early-phase (same phase i .1)))
+
+nobody-decided : NobodyDecided (oneFaulty .correct) 3
+nobody-decided c i s j early =
+    let all = all-pass (λ (c : Controller). allPass (undecidedTest 3) (states c)) (oneFaulty .correct) (tested .joining-undecided) c i in
+    eqb-true _ _ (or-right (ltb 3 (s .round)) _ (all-pass (undecidedTest 3) (states c) all s j) (le-ltb 3 (s .round) early))
+
+-- "by the next phase", and here not in the same: in phase 0 one has the candidate 3 and another has not
+pub faulty-later : ¬ RelayedAfter 0 (oneFaulty .correct)
+faulty-later claim =
+    let (c, i, k, j, knowing) = has-tested oneFaulty (knows 3 3) (tested .joining-knows) in
+    let (d, l, m, n, lacking) = has-tested oneFaulty (lacks 3 3) (tested .joining-lacks) in
+    let (s, u) : State × State = (k .answer .state, m .answer .state) in
+    let (here, has) = and-eq-true-iff (eqb (s .round) 3) (mem 3 (candidates s)) .0 knowing in
+    let (there, has-not) = and-eq-true-iff (eqb (u .round) 3) (not (mem 3 (candidates u))) .0 lacking in
+    let now = claim 0 nobody-decided c i s (returned-listed c j) (omega (arith, eqb-true (s .round) 3 here)) 3 (mem-in (candidates s) has) d l in
+    let same = now .only u (returned-listed d n) (eqb-true (u .round) 3 there) in
+    mem-out (candidates u) (not-true _ has-not) (subst (λ (v : State). In 3 (candidates v)) (sym same) (now .has))

@@ -144,12 +144,12 @@ quieted c k = refused 2 k && leb maxFrame (length (k .before)) && ltb (k .state 
 abbrev pub stops : ℕ → Controller → TrayCall → Bool
 stops t c k = refused 0 k && not (eqb (k .answer .state .decision) 2) && eqb (k .answer .state .round) t
 
--- makes round t, and then has the candidate x, or has it not
+-- returns a state of round t that has the candidate x, or one that has it not
 abbrev pub knows : ℕ → ℕ → Controller → TrayCall → Bool
-knows t x c k = refused 0 k && eqb (k .answer .state .round) t && mem x (candidates (k .answer .state))
+knows t x c k = eqb (k .answer .state .round) t && mem x (candidates (k .answer .state))
 
 abbrev pub lacks : ℕ → ℕ → Controller → TrayCall → Bool
-lacks t x c k = refused 0 k && eqb (k .answer .state .round) t && not (mem x (candidates (k .answer .state)))
+lacks t x c k = eqb (k .answer .state .round) t && not (mem x (candidates (k .answer .state)))
 
 -- calls of a line with the faulty 3
 module _ (line : List Controller) where
@@ -170,9 +170,13 @@ module _ (line : List Controller) where
   deserted c k =
       refused 0 k && keeps c k && allPass (λ (d : Controller). not (mem (d .number) (senders (entries (k .tray))))) line
 
--- a state with the decision b, of a round up to t
+-- of states: with the decision b, of a round up to t
 abbrev pub decidedTest : ℕ → ℕ → State → Bool
 decidedTest t b s = eqb (s .decision) b && leb (s .round) t
+
+-- with no decision, or of a round past t
+abbrev pub undecidedTest : ℕ → State → Bool
+undecidedTest t s = ltb t (s .round) || eqb (s .decision) 2
 
 pub record Tested : Type 0 where
   pub one-run : runTest one [] ≡ true
@@ -181,6 +185,7 @@ pub record Tested : Type 0 where
   pub joining-junked : callTest joining junked ≡ true
   pub joining-short : callTest joining (short joining) ≡ true
   pub joining-repeated : callTest joining (repeated joining) ≡ true
+  pub joining-undecided : allPass (λ (c : Controller). allPass (undecidedTest 3) (states c)) joining ≡ true
   pub joining-knows : callTest joining (knows 3 3) ≡ true
   pub joining-lacks : callTest joining (lacks 3 3) ≡ true
   pub divided-run : runTest divided (3 ∷ []) ≡ true
@@ -204,6 +209,7 @@ tested =
       joining-junked = refl;
       joining-short = refl;
       joining-repeated = refl;
+      joining-undecided = refl;
       joining-knows = refl;
       joining-lacks = refl;
       divided-run = refl;

@@ -59,7 +59,7 @@ pass-some f (y ∷ l) x i t = elim (List·Memᴰ·cases-cons i) [
 ]
 
 -- the second of two tests, where the first fails
-or-right : (a b : Bool) → (a || b) ≡ true → a ≡ false → b ≡ true
+pub or-right : (a b : Bool) → (a || b) ≡ true → a ≡ false → b ≡ true
 or-right true b h e = absurd (true≢false e)
 or-right false b h e = h
 

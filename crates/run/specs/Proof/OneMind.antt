@@ -13,7 +13,7 @@ use Rattle.controller.specs.State.{View, view, undecided}
 use Rattle.controller.specs.Laws.Lists.{true-or-false}
 use Rattle.controller.specs.declared.state.State.{State}
 use Rattle.run.specs.Run.{Member, Controller, states, Run}
-use Rattle.run.specs.OneMind.{NobodyDecided, InRound, SameKing, RelayedByNext, OneMind}
+use Rattle.run.specs.OneMind.{NobodyDecided, InRound, SameKing, RelayedAfter, OneMind}
 use Rattle.run.specs.Proof.Rotation.{CommonKing}
 use Rattle.run.specs.Proof.RotationLaws.{common-phases}
 use Rattle.run.specs.Proof.Steps.{Steps, AllActive}
@@ -72,7 +72,7 @@ module _ (r : Run) where
             in-round (m .held) (m .listed) (of-round (m .held) (m .at) u) (subst (λ (v : View). v .rotor .king ≡ king) at named);
       }
 
-  relayed : RelayedByNext correct
+  relayed : RelayedAfter 1 correct
   relayed phase nobody c i s j early x has d k =
       let h = nobody-early i phase nobody in
       let active = nobody-active (3 + 3 * phase) (omega arith) (omega arith) nobody in
