@@ -2,7 +2,7 @@
 pub use Rattle.wire.specs.Frame.{Content, kindSaid, bitSaid}
 unfoldable pub use Rattle.wire.specs.Frame.{kindOf, chosenBy, saidBy, bitFits, maxCount, lengthFits, roundFits, headFits, bodyFits}
 unfoldable pub use Rattle.wire.specs.Frame.{readRefusal, content, frameBytes}
-pub use Rattle.wire.specs.Limits.{maxFrame}
+pub use Rattle.wire.specs.Limits.{frameHeader, numberWidth, maxNumbers, maxFrame, lastRound}
 pub use Rattle.wire.specs.Found.{one, under}
 pub use Rattle.wire.specs.Laws.Found.{under-one}
 pub use Rattle.wire.specs.Tray.{Entry}

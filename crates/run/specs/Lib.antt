@@ -6,5 +6,6 @@ pub mod Outcome
 pub mod OneMind
 pub mod FirstHeard
 pub mod Quiet
+pub mod LinkUse
 pub mod Proof
 pub mod Inhabitants

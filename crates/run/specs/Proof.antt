@@ -23,3 +23,5 @@ pub mod OneMind
 pub mod FirstHeard
 -- Likewise: that a decided controller is quiet.
 pub mod Quiet
+-- Likewise: that it sends no more than so many bytes.
+pub mod LinkUse

@@ -69,7 +69,7 @@ module _ (r : Run) where
       × (length ((next v es) .rotor .echoes) ≤ size r)
 
   -- a state for whose round the controller sent a frame is one that it works a tray with
-  state-works : {c : Controller} → Member c correct → (s : State) → Member s (states c) → s .round ≤ 2 + 3 * size r → {b : List ℕ} → Sent c (s .round) b
+  pub state-works : {c : Controller} → Member c correct → (s : State) → Member s (states c) → s .round ≤ 2 + 3 * size r → {b : List ℕ} → Sent c (s .round) b
       → AtWork (steps r) (c .number) (s .round)
   state-works {c} i s j h sent =
       let f = sent-state c sent in

@@ -22,7 +22,7 @@ use Rattle.controller.specs.First.{roundsAfter}
 use Rattle.controller.specs.Received.{Received, receive}
 use Rattle.controller.specs.Rules.{next}
 use Rattle.controller.specs.Calls.{Promise, sentBytes}
-use Rattle.controller.specs.Laws.Calls.{sent-something, sender-undecided}
+use Rattle.controller.specs.Laws.Calls.{sent-nothing, sent-something, sender-undecided}
 use Rattle.controller.specs.Laws.First.{start-stays-sound, next-stays-sound}
 use Rattle.controller.specs.Laws.Lists.{true-or-false}
 use Rattle.controller.specs.Laws.Refusals.{Fits, start-accepted, tray-accepted}
@@ -49,6 +49,16 @@ promise-makes {n} {v} h e =
 pub promise-keeps : {n : ℕ} {v : View} {p : List ℕ} {s : State} {before : List ℕ} {a : Answer} {after : List ℕ}
     → Promise n v p s before a after → a .refusal ≢ 0 → a .state ≡ s
 promise-keeps {n} h e = let t : eqb n 0 ≡ false = ne-eqb n 0 (λ z. e (h .number ∙ z)) in rw t at (h .state)
+
+-- a call that is refused, or makes a state that has decided, writes nothing
+pub promise-nothing : {n : ℕ} {v : View} {p : List ℕ} {s : State} {before : List ℕ} {a : Answer} {after : List ℕ}
+    → Promise n v p s before a after → (a .refusal ≡ 0 → undecided v ≡ false) → (a .length ≡ 0) × (after ≡ before)
+promise-nothing {n} {v} {a = a} h made = elim (ℕ-discrete (a .refusal) 0) [
+  | yes e ↦
+      let none = sent-nothing v (made e) in
+      rw (h .written, h .output, eq-eqb n 0 (sym (h .number) ∙ e), none) (refl, refl)
+  | no e ↦ rw (h .written, h .output, ne-eqb n 0 (λ z. e (h .number ∙ z))) (refl, refl)
+]
 
 pub makes-view : {v : View} {p : List ℕ} {a : Answer} {after : List ℕ} → Returns v p a after → view (a .state) ≡ v
 makes-view {v} {p} m = ap view (m .state) ∙ view-stored v p
@@ -87,11 +97,11 @@ accepted-or-kept k = elim (true-or-false (eqb (k .answer .refusal) 0)) [
 
 -- ---- a list of calls
 
-abbrev returned : List TrayCall → List State
+abbrev pub returned : List TrayCall → List State
 returned ks = map (λ (k : TrayCall). k .answer .state) ks
 
 -- what holds at first and is kept by each call that works holds all along: refused calls drop out
-holds-along : (P : State → Type 0) (s : State) (ks : List TrayCall) → HandedOn s ks → P s
+pub holds-along : (P : State → Type 0) (s : State) (ks : List TrayCall) → HandedOn s ks → P s
     → ((k : TrayCall) → Member k ks → Accepted k → P (k .state) → P (k .answer .state))
     → (u : State) → Member u (s ∷ returned ks) → P u
 holds-along P s [] h p step u i = elim (List·Memᴰ·cases-cons i) [ inl e ↦ subst P (sym e) p | inr j ↦ absurd (List·Memᴰ·not-nil j) ]

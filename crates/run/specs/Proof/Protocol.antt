@@ -16,7 +16,7 @@ use Rattle.run.specs.Proof.RotationLaws.{relay, decided-deadline}
 use Rattle.run.specs.Proof.BitLaws.{bits-agree, validity}
 use Rattle.run.specs.Proof.Steps.{Steps, all, AllActive, AtWork, StepRules}
 use Rattle.run.specs.Proof.StepsLaws.{candidate-stays}
-pub use Rattle.run.specs.Proof.StepsLaws.{reception-fits}
+pub use Rattle.run.specs.Proof.StepsLaws.{echoes-short, reception-fits}
 use Rattle.run.specs.Proof.StepsRotation.{turnRound, turn-round-is, entering, rotation, before-same, work-turn, works-alive, rotation-rules}
 use Rattle.run.specs.Proof.StepsBit.{bits, bit-rules, first-value}
 

@@ -14,20 +14,10 @@ use Rattle.controller.specs.Laws.State.{sound-gives}
 use Rattle.controller.specs.State.{View, view, undecided}
 use Rattle.controller.specs.declared.state.Answer.{Answer}
 use Rattle.controller.specs.declared.state.State.{State}
-use Rattle.run.specs.Proof.Calls.{makes-view, makes-size, accepted-makes, call-given, handed-rest, decided-stays}
+use Rattle.run.specs.Proof.Calls.{promise-nothing, makes-view, makes-size, accepted-makes, call-given, handed-rest, decided-stays}
 use Rattle.run.specs.Proof.Calls.{given-listed, returned-listed, state-sound}
 use Rattle.run.specs.Quiet.{Quiet}
 use Rattle.run.specs.Run.{Member, TrayCall, HandedOn, Controller, stateAfter}
-
--- a call that is refused, or makes a state that has decided, writes nothing
-promise-nothing : {n : ℕ} {v : View} {p : List ℕ} {s : State} {before : List ℕ} {a : Answer} {after : List ℕ}
-    → Promise n v p s before a after → (a .refusal ≡ 0 → undecided v ≡ false) → (a .length ≡ 0) × (after ≡ before)
-promise-nothing {n} {v} {a = a} h made = elim (ℕ-discrete (a .refusal) 0) [
-  | yes e ↦
-      let none = sent-nothing v (made e) in
-      rw (h .written, h .output, eq-eqb n 0 (sym (h .number) ∙ e), none) (refl, refl)
-  | no e ↦ rw (h .written, h .output, ne-eqb n 0 (λ z. e (h .number ∙ z))) (refl, refl)
-]
 
 module _ (c : Controller) where
   open Controller c using (start, trays)

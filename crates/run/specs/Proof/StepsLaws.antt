@@ -143,6 +143,12 @@ module _ (S : Steps) where
         kept
         kept
 
+    -- so no list that is sent has more than n
+    pub echoes-short : (p t : ℕ) → AtWork S p t → length ((state p t) .rotor .echoes) ≤ length (all S)
+    echoes-short p t w =
+        let echoes = (state p t) .rotor .echoes in
+        inside-length echoes (rising-no-repeats echoes (sound p t w .echoes .rises)) (lists-inside t (w .timely) p (w .member) .1)
+
     -- no list outgrows the numbers: so no tray that keeps the guarantee is refused under 7 or 8
     pub reception-fits : (p t : ℕ) → AtWork S p t → (r : Received) → Reception S p t r
         → (length (r .heard) ≤ length (all S))
