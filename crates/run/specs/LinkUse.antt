@@ -13,7 +13,7 @@ use lib.ListN.{length}
 use Rattle.controller.specs.Bytes.{frameHeader, numberWidth, kindOf, maxCount}
 use Rattle.run.specs.Run.{TrayCall, Controller, Sent}
 
--- "The total is defined by the lengths returned": a refused call returns 0, as one that decides does
+-- "The total is defined by the lengths returned"
 abbrev pub lengths : Controller → List ℕ
 lengths c = c .start .answer .length ∷ map (λ (k : TrayCall). k .answer .length) (c .trays)
 
