@@ -4,6 +4,7 @@
 //! `tests/fault.rs` makes sure that a fault in the reference is found;
 //! `tests/order.rs` hands over entries in another order;
 //! `tests/networks.rs` runs whole networks with faulty controllers among them;
+//! `tests/links.rs` adds up what one controller sends;
 //! `tests/every.rs` follows everything that can happen in lines of four and five;
 //! `tests/programs.rs` compiles and runs the C programs and looks into the archive;
 //! `tests/format.rs` holds the bytes of docs/FORMAT.md to be true;
@@ -25,7 +26,7 @@
 //! - [`quiet`]: damage to the bit said, decided states, and silence in trays;
 //! - [`network`], [`adversary`]: a whole network, and what its faulty ones send;
 //!   [`stagger`], how they make correct ones stop at different rounds; [`minds`], how
-//!   often the correct ones are of one mind;
+//!   often the correct ones are of one mind; [`links`], how many bytes one sends;
 //! - [`seeds`]: a case of the comparison or a run of a network, by its seed.
 
 #![forbid(unsafe_code)]
@@ -39,6 +40,7 @@ pub mod edges;
 pub mod fields;
 pub mod frames;
 pub mod hex;
+pub mod links;
 pub mod minds;
 pub mod network;
 pub mod packing;

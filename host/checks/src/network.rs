@@ -9,13 +9,14 @@
 //! stays, and no refusal but under 3; and, of a quiet one, that it writes nothing and
 //! refuses every tray under 2. After each round each state's record of first rounds is
 //! held against the trays handed over; at the end it is seen how often all were of one
-//! mind.
+//! mind, and how much each has sent.
 
 use std::collections::BTreeMap;
 use std::marker::PhantomData;
 
 use crate::calls::Calls;
 use crate::fields::{Fields, IMAGE_LEN};
+use crate::links::limit;
 use crate::minds::Minds;
 use crate::packing::{numbers_in, pack, unpack, Entry, NONE};
 use crate::random::Random;
@@ -31,6 +32,8 @@ pub struct Correct {
     pub image: Vec<u8>,
     /// Empty if it has decided: it sends nothing then.
     pub sent: Vec<u8>,
+    /// How many bytes it has sent, this frame included.
+    bytes_sent: usize,
     /// For each number, the round of the first worked tray with an entry under it; 0 for
     /// the own one. It is kept from the trays alone.
     first_rounds: BTreeMap<u32, u32>,
@@ -99,6 +102,8 @@ pub struct Seen {
     /// In how many phases more than there are correct ones all named the same correct
     /// king, before the first decision.
     pub more_minds: usize,
+    /// The most bytes that a correct one sent.
+    pub most_sent: usize,
 }
 
 impl Seen {
@@ -138,6 +143,7 @@ impl<C: Calls> Network<C> {
                     input,
                     image,
                     sent: out[..length].to_vec(),
+                    bytes_sent: length,
                     first_rounds: BTreeMap::from([(number, 0)]),
                 }),
                 refusal => Err(format!("start of {number} refused under {refusal}")),
@@ -167,6 +173,7 @@ impl<C: Calls> Network<C> {
         self.check_end()?;
         self.check_shown()?;
         self.check_minds()?;
+        self.check_links()?;
         self.go_on()
     }
 
@@ -223,6 +230,17 @@ impl<C: Calls> Network<C> {
         let numbers: Vec<u32> = self.correct.iter().map(|p| p.number).collect();
         self.seen.more_minds = self.minds.check(&numbers)? - numbers.len();
         Ok(())
+    }
+
+    /// None sent more than a line of this size allows. Also notes how much it was.
+    fn check_links(&mut self) -> Result<(), String> {
+        let limit = limit(self.size);
+        let sent = self.correct.iter().map(|p| p.bytes_sent);
+        self.seen.most_sent = sent.max().unwrap_or(0);
+        match self.seen.most_sent <= limit {
+            true => Ok(()),
+            false => Err(format!("sent {} bytes of {limit}", self.seen.most_sent)),
+        }
     }
 
     /// The calls show the records. Also notes who was heard late, or not by all.
@@ -356,6 +374,7 @@ impl<C: Calls> Network<C> {
             return Err(format!("{number} wrote past its {length} bytes"));
         }
         correct.sent = out[..length].to_vec();
+        correct.bytes_sent += length;
         correct.worked(tray, round);
         let state = correct.fields();
         correct.check_record(&state.record())?;

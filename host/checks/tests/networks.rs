@@ -5,6 +5,7 @@
 
 use checks::adversary::Rushing;
 use checks::calls::{Calls, Engine};
+use checks::links::limit;
 use checks::network::{Adversary, Network, Seen, View};
 use checks::packing::{frame, Entry, NONE};
 use checks::seeds::{broken, first_seed, run, MakeAdversary};
@@ -28,9 +29,10 @@ fn run_all(sizes: RangeInclusive<usize>, runs: u64, make: MakeAdversary) -> Vec<
         }
     }
     println!(
-        "more phases of one mind than correct ones in {} of {} runs",
+        "more phases of one mind than correct ones in {} of {} runs; one sent at most {} bytes",
         more_minds(&all),
-        all.len()
+        all.len(),
+        all.iter().map(|seen| seen.most_sent).max().unwrap_or(0)
     );
     all
 }
@@ -128,6 +130,13 @@ fn late_ones_are_recorded() {
         );
         assert!(late > 0 && lines > all.len() / 2 && by_some > 0);
     }
+}
+
+/// A line of one uses every byte that its size allows.
+#[test]
+fn one_alone_meets_the_limit_of_its_line() {
+    let seen = run::<Engine>(1, 0, 1, Rushing::new).expect("a run");
+    assert_eq!([seen.most_sent, limit(1)], [48; 2]);
 }
 
 /// The bound is sharp, and the checks can fail: where a third or more are faulty,
