@@ -6,11 +6,7 @@ use std::ops::RangeInclusive;
 
 use crate::calls::Calls;
 use crate::fields::{Fields, IMAGE_LEN};
-use crate::packing::{frame, kind_of, pack, Entry, NONE, TURN};
-
-const HEADER: usize = 8;
-const NUMBER: usize = 4;
-const MAX_FRAME: usize = 264;
+use crate::packing::{frame, kind_of, pack, Entry, HEADER, MAX_FRAME, NONE, NUMBER, TURN};
 
 /// The most that one sends whose lists have at most n numbers, and which sends nothing
 /// from round 3 + 3n on: 2 + 3n headers and 1 + n lists. That is so for n = 64 whatever
@@ -29,7 +25,7 @@ pub struct Sender<C> {
 impl<C: Calls> Sender<C> {
     pub fn start(number: u32, bit: u8) -> Sender<C> {
         let mut image = vec![0; IMAGE_LEN];
-        let mut sent = 0;
+        let mut sent = 1;
         let answer = C::start(number, bit, &mut image, &mut [0; MAX_FRAME], &mut sent);
         assert_eq!(answer, 0, "start of {number}");
         Sender {
@@ -46,7 +42,7 @@ impl<C: Calls> Sender<C> {
     /// Hands over a tray with so much room for output; the answer, and how many bytes are
     /// sent with it.
     pub fn tray(&mut self, tray: &[u8], room: usize) -> (u8, usize) {
-        let mut length = 0;
+        let mut length = 1;
         let answer = C::tray(&mut self.image, tray, &mut vec![0; room], &mut length);
         self.sent += length;
         (answer, length)

@@ -18,11 +18,9 @@ use crate::calls::Calls;
 use crate::fields::{Fields, IMAGE_LEN};
 use crate::links::limit;
 use crate::minds::Minds;
-use crate::packing::{numbers_in, pack, unpack, Entry, NONE};
+use crate::packing::{numbers_in, pack, unpack, Entry, MAX_FRAME, NONE};
 use crate::random::Random;
 use crate::trays;
-
-const MAX_FRAME: usize = 264;
 
 /// A correct controller: its input, its state, and the frame that it sent last.
 #[derive(Clone)]

@@ -7,6 +7,11 @@ pub const PROPOSE: u8 = 4;
 pub const TURN: u8 = 5;
 pub const NONE: u8 = 2;
 
+/// The bytes of a frame without its list, of a number in it, and of the longest frame.
+pub const HEADER: usize = 8;
+pub const NUMBER: usize = 4;
+pub const MAX_FRAME: usize = 264;
+
 /// The most bytes and entries of a tray.
 pub const MAX_TRAY: usize = 65_535;
 pub const MAX_ENTRIES: usize = 256;
@@ -31,7 +36,7 @@ pub fn has_list(kind: u8) -> bool {
 
 /// A frame of the round's kind, without any test.
 pub fn frame(round: u32, bit: u8, numbers: &[u32]) -> Vec<u8> {
-    let mut bytes = Vec::with_capacity(8 + 4 * numbers.len());
+    let mut bytes = Vec::with_capacity(HEADER + NUMBER * numbers.len());
     bytes.extend(round.to_be_bytes());
     bytes.extend([kind_of(round), bit]);
     bytes.extend((numbers.len() as u16).to_be_bytes());

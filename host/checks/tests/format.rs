@@ -7,7 +7,10 @@ use std::collections::BTreeSet;
 
 use checks::calls::{Calls, Engine, Reference};
 use checks::fields::{Fields, IMAGE_LEN};
-use checks::packing::{kind_of, pack, Entry, INIT, NONE, PROPOSE, ROSTER, TURN, VALUE};
+use checks::links::{busiest, limit, Sender, BUSIEST};
+use checks::packing::{
+    frame, kind_of, pack, Entry, HEADER, INIT, MAX_FRAME, NONE, PROPOSE, ROSTER, TURN, VALUE,
+};
 use checks::page::{self, Line};
 
 const MARK: u8 = 0xA5;
@@ -186,6 +189,44 @@ fn the_frames_are_read_as_the_page_says() {
     }
     assert_eq!(kinds, BTreeSet::from([INIT, ROSTER, VALUE, PROPOSE, TURN]));
     assert_eq!(answers, BTreeSet::from([0, 11, 12, 13]));
+}
+
+/// The figures for any trays are those of the busiest controller.
+#[test]
+fn the_link_use_is_what_the_page_says() {
+    let mut sender = Sender::<Engine>::start(BUSIEST, 1);
+    let mut lengths = vec![sender.sent];
+    lengths.extend((1..=194).map(|round| sender.tray(&busiest(round), MAX_FRAME).1));
+    let count = |length| lengths.iter().filter(|&&l| l == length).count();
+    let [none, plain, full] = [0, HEADER, MAX_FRAME].map(count);
+    assert_eq!((none, plain + full), (1, 194));
+    let rows = page::rows(&page::text("FORMAT.md"), "## Link use");
+    let said: Vec<usize> = rows.iter().filter_map(|row| figure(&row[1])).collect();
+    assert_eq!(
+        said[..5],
+        [HEADER, MAX_FRAME, plain + full, full, sender.sent]
+    );
+}
+
+/// What the page has of lines of several sizes.
+#[test]
+fn the_link_use_of_lines_is_what_the_page_says() {
+    let mut sizes = Vec::new();
+    for row in page::rows(&page::text("FORMAT.md"), "## Link use") {
+        let Some(n) = figure(&row[0]) else {
+            continue;
+        };
+        let [one, whole] = [frame(2, NONE, &vec![0; n]).len(), limit(n)];
+        let said: Option<Vec<usize>> = row[1..].iter().map(|cell| figure(cell)).collect();
+        assert_eq!(said, Some(vec![one, whole, n * one, n * whole]), "{row:?}");
+        sizes.push(n);
+    }
+    assert_eq!(sizes, [4, 8, 16, 32, 64]);
+}
+
+/// A number with commas between thousands, if a cell is one.
+fn figure(cell: &str) -> Option<usize> {
+    cell.replace(',', "").parse().ok()
 }
 
 /// The number that the page gives for void bytes; 0 for a frame.

@@ -4,10 +4,10 @@
 
 use checks::calls::{Calls, Engine, Reference};
 use checks::links::{busiest, limit, Sender, BUSIEST};
+use checks::packing::{HEADER, MAX_FRAME};
 use checks::random::Random;
 use checks::trays;
 
-const MAX_FRAME: usize = 264;
 const RUNS: u64 = 2_000;
 
 /// Each round's tray comes after bytes that are no tray, then with too little room, then
@@ -20,8 +20,8 @@ fn meets_the_limit<C: Calls>(bit: u8) {
         assert_eq!(sender.tray(&tray, MAX_FRAME - 1), (3, 0));
         let sent = match round {
             194 => 0,
-            _ if round % 3 == 1 => 264,
-            _ => 8,
+            _ if round % 3 == 1 => MAX_FRAME,
+            _ => HEADER,
         };
         assert_eq!(sender.tray(&tray, MAX_FRAME), (0, sent), "round {round}");
     }
