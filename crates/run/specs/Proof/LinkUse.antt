@@ -7,12 +7,13 @@
 use Prim.Native.Nat.{ℕ, zero, suc, _+_, _*_, _≤_}
 use mathlib.Core.Bool.{Bool, true, false, cond, true≢false}
 use mathlib.Core.List.{List, [], _∷_, map, sum, List·Memᴰ·head, List·Memᴰ·tail}
-use mathlib.Core.Logic.{inl, inr}
+use mathlib.Core.Logic.{inl, inr, _≢_}
 use mathlib.Core.Path.{_≡_, refl, sym, ap, _∙_, subst}
 use native.Mathlib.Decide.{ℕ-discrete, decLe, le-ind}
 use native.Mathlib.Nat.{suc-mul}
 use native.Mathlib.Omega.{arith}
-use lib.Dec.{ltb}
+use borrow.Author.Tests.{eq-eqb, ne-eqb, le-leb, lt-leb}
+use lib.Dec.{eqb, leb, ltb}
 use lib.ListN.{length}
 use Rattle.controller.specs.Bytes.{frameHeader, numberWidth, maxNumbers, lastRound, kindOf, maxCount}
 use Rattle.controller.specs.Calls.{sentBytes}
@@ -21,11 +22,13 @@ use Rattle.controller.specs.Laws.Calls.{sent-nothing, sent-length}
 use Rattle.controller.specs.Laws.Lists.{true-or-false}
 use Rattle.controller.specs.Laws.Rules.{kind-later, last-round-decides}
 use Rattle.controller.specs.Laws.State.{sound-gives}
+use Rattle.controller.specs.declared.state.Answer.{Answer}
 use Rattle.controller.specs.declared.state.State.{State}
-use Rattle.run.specs.LinkUse.{longest, headers, lists, linkLimit, LinkUse}
+use Rattle.run.specs.LinkUse.{bytesSent, sentIn, bytesIn, longest, headers, fullLists, linkLimit, LinkUse}
 use Rattle.run.specs.Run.{Member, TrayCall, Accepted, HandedOn, Controller, states, Run}
 use Rattle.run.specs.Proof.Calls.{promise-keeps, promise-nothing, makes-view, makes-size, receivedWith, accepted-fits, accepted-makes, accepted-round}
-use Rattle.run.specs.Proof.Calls.{holds-along, start-returns, start-round, start-undecided, start-listed, given-listed, returned-listed, state-sound, state-last, state-sent, sent-state}
+use Rattle.run.specs.Proof.Calls.{returned, holds-along, start-returns, start-round, start-undecided, start-listed, given-listed}
+use Rattle.run.specs.Proof.Calls.{returned-listed, state-sound, state-last, state-sent}
 use Rattle.run.specs.Proof.Agreement.{state-works}
 use Rattle.run.specs.Proof.Held.{at-most}
 use Rattle.run.specs.Proof.Protocol.{deadline, echoes-short}
@@ -33,7 +36,7 @@ use Rattle.run.specs.Proof.RunSteps.{size, steps, state-held, state-at, 
 
 -- ---- the figure
 
-pub figure : (suc (headers maxNumbers) ≡ lastRound) × (headers maxNumbers ≡ 194) × (lists maxNumbers ≡ 65) × (linkLimit maxNumbers ≡ 18192)
+pub figure : (suc (headers maxNumbers) ≡ lastRound) × (headers maxNumbers ≡ 194) × (fullLists maxNumbers ≡ 65) × (linkLimit maxNumbers ≡ 18192)
 figure = (refl, refl, refl, refl)
 
 -- ---- round by round
@@ -55,16 +58,27 @@ module _ (n : ℕ) where
       let turn : kindOf (suc (suc (suc (2 + 3 * r)))) ≡ 5 = kind-later _ 2 (omega arith) (omega arith) in
       rw (value, propose, turn) (omega arith)
 
-  phases-add : (r : ℕ) → upTo (headers r) ≡ headers r * frameHeader + lists r * (n * numberWidth)
+  phases-add : (r : ℕ) → upTo (headers r) ≡ headers r * frameHeader + fullLists r * (n * numberWidth)
   unfolding kindOf maxCount
   phases-add zero = omega arith
   phases-add (suc r) =
       let next : headers (suc r) ≡ suc (suc (suc (headers r))) = omega arith in
-      let one-more : lists (suc r) ≡ suc (lists r) = omega arith in
-      let more = suc-mul (lists r) (n * numberWidth) in
+      let one-more : fullLists (suc r) ≡ suc (fullLists r) = omega arith in
+      let more = suc-mul (fullLists r) (n * numberWidth) in
       rw (next, one-more) (omega (arith, phase-adds r, phases-add r, more))
 
 -- ---- call by call
+
+-- a sum along the calls is at most what a measure of states comes to, if that grows with each call by as much as the call adds
+sum-along : (w : Answer → ℕ) (used : State → ℕ) {most : ℕ} (s : State) (ks : List TrayCall) → HandedOn s ks
+    → ((k : TrayCall) → Member k ks → w (k .answer) + used (k .state) ≤ used (k .answer .state))
+    → ((u : State) → Member u (s ∷ returned ks) → used u ≤ most)
+    → sum _+_ 0 (map w (map (λ (k : TrayCall). k .answer) ks)) + used s ≤ most
+unfolding sum
+sum-along w used s [] h grows top = omega (arith, top s (List·Memᴰ·head refl))
+sum-along w used s (k ∷ ks) h grows top =
+    let rest = sum-along w used (k .answer .state) ks (h .1) (λ l i. grows l (List·Memᴰ·tail i)) (λ u i. top u (List·Memᴰ·tail i)) in
+    omega (arith, rest, grows k (List·Memᴰ·head refl), ap used (h .0))
 
 abbrev Bounded : ℕ → Controller → Type 0
 Bounded n c = (s : State) → Member s (states c) → undecided (view s) ≡ true → (s .round ≤ headers n) × (length ((view s) .rotor .echoes) ≤ n)
@@ -73,62 +87,104 @@ list-short : (n : ℕ) (b : Bool) (l : List ℕ) → length l ≤ n → length (
 list-short n true l h = h
 list-short n false l h = omega arith
 
-abbrev allowed : ℕ → State → ℕ
-allowed n s = cond (undecided (view s)) (upTo n (s .round)) (upTo n (headers n))
+cond-less : (b : Bool) (m : ℕ) → cond b m 0 ≤ m
+cond-less true m = omega arith
+cond-less false m = omega arith
 
 module _ (n : ℕ) (c : Controller) (bounded : Bounded n c) where
-  sent-short : {t : ℕ} (s : State) → Member s (states c) → s .round ≡ t → undecided (view s) ≡ true → length (sentBytes (view s)) ≤ longest n t
-  sent-short s i e u =
-      let short = list-short n (ltb 0 (maxCount (kindOf (s .round)))) ((view s) .rotor .echoes) (bounded s i u .1) in
-      rw (sym e) (omega (arith, sent-length (view s) u, short))
+  abbrev begun : State
+  begun = c .start .answer .state
 
-  allowed-most : (s : State) → Member s (states c) → allowed n s ≤ upTo n (headers n)
+  sent-short : (s : State) → Member s (states c) → length (sentBytes (view s)) ≤ longest n (s .round)
+  sent-short s i = elim (true-or-false (undecided (view s))) [
+    | inl u ↦
+        let short = list-short n (ltb 0 (maxCount (kindOf (s .round)))) ((view s) .rotor .echoes) (bounded s i u .1) in
+        omega (arith, sent-length (view s) u, short)
+    | inr d ↦ omega (arith, ap length (sent-nothing (view s) d))
+  ]
+
+  start-short : c .start .answer .length ≤ longest n 1
+  start-short = subst (λ t. c .start .answer .length ≤ longest n t) (start-round c)
+      (omega (arith, makes-size (start-returns c), sent-short begun (start-listed c)))
+
+  call-short : (k : TrayCall) → Member k (c .trays) → Accepted k → k .answer .length ≤ longest n (k .answer .state .round)
+  call-short k i w = omega (arith, makes-size (accepted-makes k w), sent-short (k .answer .state) (returned-listed c i))
+
+  refused-nothing : (k : TrayCall) → k .answer .refusal ≢ 0 → k .answer .length ≡ 0
+  refused-nothing k refused = promise-nothing (k .promise) (λ w. absurd (refused w)) .0
+
+  -- ---- in a round
+
+  -- what a round t has used once round u is reached
+  abbrev reached : ℕ → ℕ → ℕ
+  reached t u = cond (leb t u) (longest n t) 0
+
+  round-reached : (t u size : ℕ) → size ≤ longest n (suc u) → cond (eqb (suc u) t) size 0 + reached t u ≤ reached t (suc u)
+  round-reached t u size short = elim (ℕ-discrete (suc u) t) [
+    | yes e ↦ rw (sym e, eq-eqb (suc u) (suc u) refl, lt-leb (suc u) u (omega arith), le-leb (suc u) (suc u) (omega arith)) (omega arith)
+    | no d ↦ elim (decLe t u) [
+      | yes l ↦ rw (ne-eqb (suc u) t d, le-leb t u l, le-leb t (suc u) (omega arith)) (omega arith)
+      | no l ↦ rw (ne-eqb (suc u) t d, lt-leb t u (omega arith)) (omega arith)
+    ]
+  ]
+
+  call-reached : (t : ℕ) (k : TrayCall) → Member k (c .trays)
+      → sentIn t (k .answer) + reached t (k .state .round) ≤ reached t (k .answer .state .round)
+  call-reached t k i = elim (ℕ-discrete (k .answer .refusal) 0) [
+    | yes w ↦
+        let e = accepted-round k w in
+        subst (λ u. cond (eqb u t) (k .answer .length) 0 + reached t (k .state .round) ≤ reached t u) (sym e)
+        (round-reached t (k .state .round) (k .answer .length) (subst (λ u. k .answer .length ≤ longest n u) e (call-short k i w)))
+    | no refused ↦
+        let same = ap (λ (s : State). reached t (s .round)) (promise-keeps (k .promise) refused) in
+        let nothing = cond-less (eqb (k .answer .state .round) t) (k .answer .length) in
+        omega (arith, refused-nothing k refused, same, nothing)
+  ]
+
+  round-bytes : (t : ℕ) → bytesIn c t ≤ longest n t
+  unfolding sum
+  round-bytes t =
+      let rest = sum-along (sentIn t) (λ s. reached t (s .round)) begun (c .trays) (c .handed)
+      (call-reached t) (λ u i. cond-less (leb t (u .round)) (longest n t)) in
+      let first = round-reached t 0 (c .start .answer .length) start-short in
+      omega (arith, rest, subst (λ u. cond (eqb u t) (c .start .answer .length) 0 ≤ reached t u) (sym (start-round c)) (omega (arith, first)))
+
+  -- ---- in all
+
+  abbrev allowed : State → ℕ
+  allowed s = cond (undecided (view s)) (upTo n (s .round)) (upTo n (headers n))
+
+  allowed-most : (s : State) → Member s (states c) → allowed s ≤ upTo n (headers n)
   allowed-most s i = elim (true-or-false (undecided (view s))) [
     | inl u ↦ rw u (up-to-more n (s .round) (headers n) (bounded s i u .0))
     | inr d ↦ rw d (omega arith)
   ]
 
   -- what a call sends is what its state is allowed more than the one before
-  call-allowed : (k : TrayCall) → Member k (c .trays) → k .answer .length + allowed n (k .state) ≤ allowed n (k .answer .state)
+  call-allowed : (k : TrayCall) → Member k (c .trays) → k .answer .length + allowed (k .state) ≤ allowed (k .answer .state)
   call-allowed k i = elim (ℕ-discrete (k .answer .refusal) 0) [
     | yes w ↦
-        let size = makes-size (accepted-makes k w) in
         let active = accepted-fits k w .active in
         elim (true-or-false (undecided (view (k .answer .state)))) [
           | inl u ↦
-              let short = sent-short (k .answer .state) (returned-listed c i) (accepted-round k w) u in
-              rw (active, u, accepted-round k w) (omega (arith, size, short))
+              let short = subst (λ t. k .answer .length ≤ longest n t) (accepted-round k w) (call-short k i w) in
+              rw (active, u, accepted-round k w) (omega (arith, short))
           | inr d ↦
               let before = allowed-most (k .state) (given-listed c i) in
-              rw d (omega (arith, size, ap length (sent-nothing (view (k .answer .state)) d), before))
+              rw d (omega (arith, makes-size (accepted-makes k w), ap length (sent-nothing (view (k .answer .state)) d), before))
         ]
-    | no refused ↦
-        let nothing = promise-nothing (k .promise) (λ w. absurd (refused w)) .0 in
-        rw (promise-keeps (k .promise) refused) (omega (arith, nothing))
+    | no refused ↦ rw (promise-keeps (k .promise) refused) (omega (arith, refused-nothing k refused))
   ]
 
-  calls-allowed : (s : State) (ks : List TrayCall) → HandedOn s ks → Member s (states c) → ((k : TrayCall) → Member k ks → Member k (c .trays))
-      → sum _+_ 0 (map (λ (k : TrayCall). k .answer .length) ks) + allowed n s ≤ upTo n (headers n)
+  all-bytes : bytesSent c ≤ linkLimit n
   unfolding sum
-  calls-allowed s [] h i inside = omega (arith, allowed-most s i)
-  calls-allowed s (k ∷ ks) h i inside =
-      let here = inside k (List·Memᴰ·head refl) in
-      let rest = calls-allowed (k .answer .state) ks (h .1) (returned-listed c here) (λ l j. inside l (List·Memᴰ·tail j)) in
-      omega (arith, rest, call-allowed k here, ap (allowed n) (h .0))
-
-  start-allowed : c .start .answer .length ≤ allowed n (c .start .answer .state)
-  start-allowed =
-      let short = sent-short (c .start .answer .state) (start-listed c) (start-round c) (start-undecided c) in
-      rw (start-undecided c, start-round c) (omega (arith, makes-size (start-returns c), short))
+  all-bytes =
+      let rest = sum-along (λ (a : Answer). a .length) allowed begun (c .trays) (c .handed) call-allowed allowed-most in
+      let first : c .start .answer .length ≤ allowed begun = rw (start-undecided c, start-round c) (omega (arith, start-short)) in
+      omega (arith, rest, first, phases-add n n)
 
   bounded-use : LinkUse n c
-  unfolding sum
-  bounded-use = record {
-    frames = λ t b sent. let f = sent-state c sent in rw (f .bytes) (sent-short (f .state) (f .listed) (f .round) (f .active));
-    total =
-        let rest = calls-allowed (c .start .answer .state) (c .trays) (c .handed) (start-listed c) (λ k i. i) in
-        omega (arith, start-allowed, rest, phases-add n n);
-  }
+  bounded-use = record { rounds = round-bytes; total = all-bytes }
 
 -- ---- any controller
 
