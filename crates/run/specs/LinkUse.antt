@@ -1,7 +1,8 @@
 -- What is claimed of every list of calls from a start, worked trays and refused ones of any bytes: document 02, "A13. Link use of a run".
---     answers c       what the controller c's calls answer, in order, the start's first
---     bytesSent c     what the lengths in them add up to
---     bytesIn c t     likewise, of the calls that return a state of round t
+--     answered ks     what the calls ks answer, in order
+--     answers c       what the controller c's calls answer, the start's first
+--     bytesOf l       what the lengths in the answers l add up to
+--     bytesSent c     that of all answers of c; bytesIn c t, of those that return a state of round t
 --     longest n t     the length of a frame of round t, whose list, if it has one, is of n numbers
 --     headers n       how many frames are sent at most where nothing is from round 3 + 3n on; fullLists n, how many of these have a list
 --     linkLimit n     the bytes of so many headers, and of so many lists of n numbers
@@ -14,12 +15,18 @@ use Rattle.controller.specs.Bytes.{frameHeader, numberWidth, kindOf, maxCount}
 use Rattle.controller.specs.declared.state.Answer.{Answer}
 use Rattle.run.specs.Run.{TrayCall, Controller}
 
+abbrev pub answered : List TrayCall → List Answer
+answered ks = map (λ (k : TrayCall). k .answer) ks
+
 abbrev pub answers : Controller → List Answer
-answers c = c .start .answer ∷ map (λ (k : TrayCall). k .answer) (c .trays)
+answers c = c .start .answer ∷ answered (c .trays)
 
 -- "The total is defined by the lengths returned"
+abbrev pub bytesOf : List Answer → ℕ
+bytesOf l = sum _+_ 0 (map (λ (a : Answer). a .length) l)
+
 abbrev pub bytesSent : Controller → ℕ
-bytesSent c = sum _+_ 0 (map (λ (a : Answer). a .length) (answers c))
+bytesSent c = bytesOf (answers c)
 
 abbrev pub sentIn : ℕ → Answer → ℕ
 sentIn t a = cond (eqb (a .state .round) t) (a .length) 0

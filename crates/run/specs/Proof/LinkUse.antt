@@ -24,7 +24,7 @@ use Rattle.controller.specs.Laws.Rules.{kind-later, last-round-decides}
 use Rattle.controller.specs.Laws.State.{sound-gives}
 use Rattle.controller.specs.declared.state.Answer.{Answer}
 use Rattle.controller.specs.declared.state.State.{State}
-use Rattle.run.specs.LinkUse.{bytesSent, sentIn, bytesIn, longest, headers, fullLists, linkLimit, LinkUse}
+use Rattle.run.specs.LinkUse.{answered, bytesSent, sentIn, bytesIn, longest, headers, fullLists, linkLimit, LinkUse}
 use Rattle.run.specs.Run.{Member, TrayCall, Accepted, HandedOn, Controller, states, Run}
 use Rattle.run.specs.Proof.Calls.{promise-keeps, promise-nothing, makes-view, makes-size, receivedWith, accepted-fits, accepted-makes, accepted-round}
 use Rattle.run.specs.Proof.Calls.{returned, holds-along, start-returns, start-round, start-undecided, start-listed, given-listed}
@@ -42,7 +42,7 @@ figure = (refl, refl, refl, refl)
 -- ---- round by round
 
 module _ (n : ℕ) where
-  abbrev upTo : ℕ → ℕ
+  abbrev pub upTo : ℕ → ℕ
   upTo zero = 0
   upTo (suc t) = upTo t + longest n (suc t)
 
@@ -73,7 +73,7 @@ module _ (n : ℕ) where
 sum-along : (w : Answer → ℕ) (used : State → ℕ) {most : ℕ} (s : State) (ks : List TrayCall) → HandedOn s ks
     → ((k : TrayCall) → Member k ks → w (k .answer) + used (k .state) ≤ used (k .answer .state))
     → ((u : State) → Member u (s ∷ returned ks) → used u ≤ most)
-    → sum _+_ 0 (map w (map (λ (k : TrayCall). k .answer) ks)) + used s ≤ most
+    → sum _+_ 0 (map w (answered ks)) + used s ≤ most
 unfolding sum
 sum-along w used s [] h grows top = omega (arith, top s (List·Memᴰ·head refl))
 sum-along w used s (k ∷ ks) h grows top =

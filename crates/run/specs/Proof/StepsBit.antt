@@ -6,7 +6,7 @@
 --     first-value S K   the first value sent is the bit brought in
 use Prim.Native.Nat.{ℕ, zero, suc, _+_, _≤_, _<_, zero-le}
 use mathlib.Core.Bool.{Bool, true, false, not, cond, _&&_, true≢false, and-eq-true-iff}
-use mathlib.Core.List.{List, [], _∷_}
+use mathlib.Core.List.{List, [], _∷_, List·Memᴰ·head, List·Memᴰ·tail}
 use mathlib.Core.Logic.{_⊎_, inl, inr, _↔_, _≢_}
 use mathlib.Core.Option.{Option, some, none}
 use mathlib.Core.Path.{_≡_, refl, sym, ap, _∙_}
@@ -83,9 +83,9 @@ module _ (v : View) (k : ℕ) (h : Sound v) (u : undecided v ≡ true) (kind : k
       bit-said k (v .bit .said) (standIn v)
       (stand-in-says v h u k (v .bit .said) ∙ rw (kind, ne-eqb k 5 other, eq-eqb k k refl, eq-eqb (v .bit .said) (v .bit .said) refl) refl)
 
-count-same : (f g : ℕ → Bool) → ((x : ℕ) → f x ≡ g x) → (l : List ℕ) → countIf f l ≡ countIf g l
-count-same f g same [] = refl
-count-same f g same (x ∷ l) = rw (same x, count-same f g same l) refl
+pub count-same : (f g : ℕ → Bool) (l : List ℕ) → ((x : ℕ) → In x l → f x ≡ g x) → countIf f l ≡ countIf g l
+count-same f g [] same = refl
+count-same f g (x ∷ l) same = rw (same x (List·Memᴰ·head refl), count-same f g l (λ y i. same y (List·Memᴰ·tail i))) refl
 
 module _ (v : View) (r : Received) where
   -- how many of those heard have a frame of kind k with bit b
@@ -93,7 +93,7 @@ module _ (v : View) (r : Received) where
   bitCount k b = countIf (λ s. eqb (bitOf k (r .from s)) b) (r .heard)
 
   count-says : (k b : ℕ) → b < 2 → count (says k b) r ≡ bitCount k b
-  count-says k b h = count-same _ _ (λ s. says-bit k b (r .from s) h) (r .heard)
+  count-says k b h = count-same _ _ (r .heard) (λ s i. says-bit k b (r .from s) h)
 
   value-two-thirds-is : (b : ℕ) → b < 2 → (valueTwoThirds r b ≡ true) ↔ TwoThirds (bitCount 3 b) (length (r .heard))
   unfolding valueTwoThirds
