@@ -3,7 +3,7 @@
 --     members                64 numbers, the own one, 64, among them; all are heard from the first tray on
 --     strangers              64 others, which nobody has
 --     speakers               just a third of the members: 22
---     listRound r            the round whose lists phase r counts; in its tray sendersIn r have entries, all with the bytes bytesIn r
+--     listRound r            the round whose lists phase r counts; in its tray sendersIn r have entries, all with the frame frameIn r
 --     phases r n             the trays of the n phases from r on, those between the rounds of lists empty
 --     busiest                the controller that gets these; limit-met, that it sends so much
 --     candidatesIn r         the candidates before phase r; echoesIn r, the echoes; spoken r, what the speakers list in that phase
@@ -70,13 +70,13 @@ sendersIn zero = []
 sendersIn (suc r) = speakers
 
 -- from phase 2 on they are of length 0, and void
-abbrev pub bytesIn : ℕ → List ℕ
-bytesIn zero = []
-bytesIn (suc zero) = strangersTurn
-bytesIn (suc (suc r)) = []
+abbrev pub frameIn : ℕ → List ℕ
+frameIn zero = []
+frameIn (suc zero) = strangersTurn
+frameIn (suc (suc r)) = []
 
 abbrev pub entriesIn : ℕ → List Entry
-entriesIn r = sending (sendersIn r) (bytesIn r)
+entriesIn r = sending (sendersIn r) (frameIn r)
 
 unfoldable pub phases : ℕ → ℕ → List Input
 phases r zero = []
@@ -177,7 +177,7 @@ becomes (suc (suc r)) x = echoed-still (mem x strangers) (mem x members) (no-mem
 
 -- ---- a round of lists
 
-list-read : (r : ℕ) → listIn (content (bytesIn r) (listRound r)) ≡ spoken r
+list-read : (r : ℕ) → listIn (content (frameIn r) (listRound r)) ≡ spoken r
 unfolding kindOf chosenBy saidBy bitFits maxCount lengthFits roundFits headFits bodyFits readRefusal content frameBytes strangersTurn strangers
 list-read zero = refl
 list-read (suc zero) = refl
@@ -201,7 +201,7 @@ lists-stand : (r : ℕ) (s : State) → InPhase r s → r < 64 → Stands 64 (su
 unfolding voices
 lists-stand r s before early =
     let size = members-full .1 in
-    value-stands r before (sendersIn r) (bytesIn r) (own-silent r) (list-read r) (heard-still r (view s) (before .stands .heard))
+    value-stands r before (sendersIn r) (frameIn r) (own-silent r) (list-read r) (heard-still r (view s) (before .stands .heard))
     members (echoesIn (suc r)) (members-full .0) (echoes-full (suc r) .0) (omega (arith, size)) (λ x. rw size (becomes r x))
 
 -- ---- the sum

@@ -6,7 +6,7 @@
 --     Packs n t es             that tray is well packed and has just these entries, none of them under 0 or n
 --     total s is               what the lengths that the calls on the inputs is return add up to, where the first is handed the state s
 --     Worked n t es h c e s    the call with s on that tray is worked: it sends the longest frame of round t + 1 and leaves a state with the lists h, c, e
-use Prim.Native.Nat.{ℕ, zero, suc, _+_, _*_, _≤_, _<_}
+use Prim.Native.Nat.{ℕ, suc, _+_, _*_, _≤_, _<_}
 use mathlib.Core.Bool.{Bool, true, false, not, cond, _&&_, _||_, and-eq-true-iff, and-false, or-true}
 use mathlib.Core.List.{List, [], _∷_, map, sum, Memᴰ·map, Memᴰ·of-map, Memᴰ·cast}
 use mathlib.Core.Logic.{inl, inr}
@@ -34,12 +34,13 @@ use Rattle.controller.specs.Laws.Lists.{in-mem, mem-in, out-mem, mem-out, in-or
 use Rattle.controller.specs.Laws.Received.{heard-some, received-own, received-other, received-silent, frame-list, stand-in-list}
 use Rattle.controller.specs.Laws.Refusals.{Fits, tray-fits}
 use Rattle.controller.specs.Laws.Rotation.{echoed-in, echoed-rising, candidates-in, candidates-rising}
-use Rattle.controller.specs.Laws.Rules.{kind-later, step-value, step-propose, step-turn, step-heard, phase-is}
+use Rattle.controller.specs.Laws.Rules.{step-value, step-propose, step-turn, step-heard, phase-is}
 use Rattle.controller.specs.Laws.State.{sound-gives}
 use Rattle.controller.specs.declared.state.State.{State}
 use Rattle.run.specs.LinkUse.{answered, bytesOf, longest}
 use Rattle.run.specs.Proof.Calls.{makes-view, makes-size, accepted-makes}
 use Rattle.run.specs.Proof.StepsBit.{count-same}
+use Rattle.run.specs.Proof.StepsRotation.{turn-round-is, list-sent}
 use Rattle.run.specs.Inhabitants.RunTest.{or-right}
 use Rattle.run.specs.Inhabitants.Played.{Input, trayCall, played}
 
@@ -115,12 +116,6 @@ pub record Reached (n t : ℕ) (h c e : List ℕ) (s : State) : Type 0 where
   pub good : sound s ≡ true
   pub stands : Stands n t h c e (view s)
 
--- a frame of round 2 + 3r has a list
-list-sent : (r : ℕ) → ltb 0 (maxCount (kindOf (2 + 3 * r))) ≡ true
-unfolding kindOf maxCount
-list-sent zero = refl
-list-sent (suc r) = rw (kind-later (2 + 3 * suc r) 2 (omega arith) (omega arith))
-
 module _ {n t : ℕ} {h c e : List ℕ} {v : View} (stands : Stands n t h c e v) where
   pub sent-longest : length (sentBytes v) ≡ longest (length e) t
   sent-longest = sent-length v (stands .active) ∙ rw (stands .round, stands .echoes) (pick (ltb 0 (maxCount (kindOf t))))
@@ -167,7 +162,7 @@ module _ {n : ℕ} (r : ℕ) {h c e a : List ℕ} {s : State} (before : Reached 
   tally-is : (x : ℕ) → tally received x ≡ counted x
   tally-is x =
       let apart : ¬ In (v .own) xs = rw (stands .own) (mem-out xs others) in
-      let sent : listIn (some (frameOf v)) ≡ e = frame-list v ∙ rw (stands .round, list-sent r) (stands .echoes) in
+      let sent : listIn (some (frameOf v)) ≡ e = frame-list v ∙ rw (stands .round, sym (turn-round-is r), list-sent r) (stands .echoes) in
       tally-from v xs b (stands .heard) apart (ap (λ t. listIn (content b t)) (stands .round) ∙ read) sent x known
 
   -- so the candidates become m and the echoes w, where m has too many numbers for a decision in phase r

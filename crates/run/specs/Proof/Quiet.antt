@@ -1,18 +1,13 @@
 -- Why a decided controller is quiet: with a decided state there is no frame, and such a state refuses each tray under 2.
 --     quiet    the theorem
-use Prim.Native.Nat.{ℕ}
-use mathlib.Core.Bool.{false}
-use mathlib.Core.List.{List, List·Memᴰ·tail, Memᴰ·map, Memᴰ·append-right}
-use mathlib.Core.Path.{_≡_, refl, sym, ap, _∙_, subst}
-use native.Mathlib.Decide.{ℕ-discrete}
+use mathlib.Core.List.{List·Memᴰ·tail, Memᴰ·map, Memᴰ·append-right}
+use mathlib.Core.Path.{_≡_, sym, ap, _∙_, subst}
 use borrow.Author.Tests.{eq-eqb, ne-eqb}
 use lib.ListN.{length}
-use Rattle.controller.specs.Calls.{Promise}
-use Rattle.controller.specs.Laws.Calls.{sent-nothing, sent-something}
+use Rattle.controller.specs.Laws.Calls.{sent-something}
 use Rattle.controller.specs.Laws.Refusals.{decided-refused}
 use Rattle.controller.specs.Laws.State.{sound-gives}
 use Rattle.controller.specs.State.{View, view, undecided}
-use Rattle.controller.specs.declared.state.Answer.{Answer}
 use Rattle.controller.specs.declared.state.State.{State}
 use Rattle.run.specs.Proof.Calls.{promise-nothing, makes-view, makes-size, accepted-makes, call-given, handed-rest, decided-stays}
 use Rattle.run.specs.Proof.Calls.{given-listed, returned-listed, state-sound}

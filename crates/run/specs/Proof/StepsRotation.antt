@@ -63,7 +63,7 @@ pub kind-turn : (r : ℕ) → kindOf (turnRound (suc r)) ≡ 5
 kind-turn r = let e = turn-round-is r in kind-later (turnRound (suc r)) 2 (omega arith) (omega arith)
 
 -- a list is sent in the rounds 2 + 3r
-list-sent : (r : ℕ) → ltb 0 (maxCount (kindOf (turnRound r))) ≡ true
+pub list-sent : (r : ℕ) → ltb 0 (maxCount (kindOf (turnRound r))) ≡ true
 unfolding kindOf maxCount
 list-sent zero = refl
 list-sent (suc r) = rw (kind-turn r)
