@@ -53,7 +53,7 @@ impl<C: Calls> Sender<C> {
 pub const BUSIEST: u32 = 64;
 
 /// The tray of a round, of those that make controller 64 send all that it may, whatever
-/// its bit.
+/// its bit: those of `FullLists` in `crates/run/specs/Inhabitants`.
 ///
 /// - Round 1: 1 to 63 send init, so the roster has 64 numbers.
 /// - Round 2: all are silent, which counts as the own roster. So the 64 are candidates, and
@@ -62,7 +62,7 @@ pub const BUSIEST: u32 = 64;
 /// - From round 8 on the same third has void frames, so that the own list, which counts for
 ///   the others, reaches a third again, and not two thirds.
 pub fn busiest(round: u32) -> Vec<u8> {
-    let others: Vec<u32> = (65..=128).collect();
+    let others: Vec<u32> = (257..=320).collect();
     let entries = match round {
         1 => from(1..=63, frame(1, NONE, &[])),
         5 => from(1..=22, frame(5, NONE, &others)),
