@@ -35,8 +35,8 @@ use Rattle.run.specs.Proof.Calls.{makes-view, makes-size, start-returns,
 use Rattle.run.specs.Proof.LinkUse.{upTo}
 use Rattle.run.specs.Inhabitants.RunTest.{all-pass}
 use Rattle.run.specs.Inhabitants.Played.{Input, controller}
-use Rattle.run.specs.Inhabitants.Worked.{sending, Stands, sent-longest, value-stands, propose-stands, turn-stands}
-use Rattle.run.specs.Inhabitants.Worked.{offered, Packs, packs-nothing, Reached, total, total-nothing, works}
+use Rattle.run.specs.Inhabitants.CallByCall.{sending, Stands, sent-longest, value-stands, propose-stands, turn-stands}
+use Rattle.run.specs.Inhabitants.CallByCall.{offered, Packs, packs-nothing, Reached, total, total-nothing, works}
 
 -- ---- the run
 

@@ -5,7 +5,7 @@
 --     offered t es             the tray of round t with the entries es, and room for any frame
 --     Packs n t es             that tray is well packed and has just these entries, none of them under 0 or n
 --     total s is               what the lengths that the calls on the inputs is return add up to, where the first is handed the state s
---     Worked n t es h c e s    the call with s on that tray is worked: it sends the longest frame of round t + 1 and leaves a state with the lists h, c, e
+--     LeadsTo n t es h c e s   the call with s on that tray is worked: it sends the longest frame of round t + 1 and leaves a state with the lists h, c, e
 use Prim.Native.Nat.{ℕ, suc, _+_, _*_, _≤_, _<_}
 use mathlib.Core.Bool.{Bool, true, false, not, cond, _&&_, _||_, and-eq-true-iff, and-false, or-true}
 use mathlib.Core.List.{List, [], _∷_, map, sum, Memᴰ·map, Memᴰ·of-map, Memᴰ·cast}
@@ -210,7 +210,7 @@ pub total-nothing : (s : State) → total s [] ≡ 0
 unfolding total sum
 total-nothing s = refl
 
-pub record Worked (n t : ℕ) (es : List Entry) (h c e : List ℕ) (s : State) : Type 0 where
+pub record LeadsTo (n t : ℕ) (es : List Entry) (h c e : List ℕ) (s : State) : Type 0 where
   pub after : State
   pub reached : Reached n (suc t) h c e after
   pub adds : (is : List Input) → total s (offered t es ∷ is) ≡ longest maxNumbers (suc t) + total after is
@@ -221,7 +221,7 @@ module _ {n t : ℕ} {es : List Entry} {s : State} {h₀ c₀ e₀ : List ℕ} (
   bytes = packed t es
 
   pub works : {h c e : List ℕ} → t < lastRound → Stands n (suc t) h c e (next (view s) es)
-      → (length h ≤ maxNumbers) × (length c ≤ maxNumbers) × (length e ≡ maxNumbers) → Worked n t es h c e s
+      → (length h ≤ maxNumbers) × (length c ≤ maxNumbers) × (length e ≡ maxNumbers) → LeadsTo n t es h c e s
   unfolding total sum
   works {h} {c} {e} early made few =
       let v = view s in
