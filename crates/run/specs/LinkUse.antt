@@ -2,7 +2,9 @@
 --     answered ks     what the calls ks answer, in order
 --     answers c       what the controller c's calls answer, the start's first
 --     bytesOf l       what the lengths in the answers l add up to
---     bytesSent c     that of all answers of c; bytesIn c t, of those that return a state of round t
+--     bytesSent c     that of all answers of c
+--     sentIn t a      the length in the answer a where it has a state of round t, else 0
+--     bytesIn c t     what these of all answers of c add up to
 --     longest n t     the length of a frame of round t, whose list, if it has one, is of n numbers
 --     headers n       how many frames are sent at most where nothing is from round 3 + 3n on; fullLists n, how many of these have a list
 --     linkLimit n     the bytes of so many headers, and of so many lists of n numbers

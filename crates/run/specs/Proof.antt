@@ -23,5 +23,5 @@ pub mod OneMind
 pub mod FirstHeard
 -- Likewise: that a decided controller is quiet.
 pub mod Quiet
--- Likewise: that it sends no more than so many bytes.
+-- Likewise: that it sends no more than so many bytes; and that in a run of n this goes by n.
 pub mod LinkUse

@@ -1,8 +1,9 @@
 -- Why a controller sends no more than so much: each call sends at most what its round allows, and no round is made twice.
 --     figure         the limit is 18,192
 --     upTo n t       what the longest frames of the rounds 1 to t come to
---     allowed n s    that of the rounds up to the state s's, or of all if it has decided: what may have been sent when a call returns s
 --     Bounded n c    an undecided state of the controller c is of a round up to 2 + 3n, and its list has at most n numbers
+--     reached t u    what may have been sent in round t once round u is made
+--     allowed s      what may have been sent in all once a call returns s: in the rounds up to that of s, or in all of them if s has decided
 --     link-use       the theorem; run-link-use, of a controller in a run
 use Prim.Native.Nat.{ℕ, zero, suc, _+_, _*_, _≤_}
 use mathlib.Core.Bool.{Bool, true, false, cond, true≢false}
@@ -115,7 +116,6 @@ module _ (n : ℕ) (c : Controller) (bounded : Bounded n c) where
 
   -- ---- in a round
 
-  -- what a round t has used once round u is reached
   abbrev reached : ℕ → ℕ → ℕ
   reached t u = cond (leb t u) (longest n t) 0
 
