@@ -20,6 +20,7 @@ use Rattle.run.specs.Run.{TrayCall, Controller}
 abbrev pub answered : List TrayCall → List Answer
 answered ks = map (λ (k : TrayCall). k .answer) ks
 
+-- "all its frames from start, each tray with the state that the call before it returned": a `Controller` is such a list of calls
 abbrev pub answers : Controller → List Answer
 answers c = c .start .answer ∷ answered (c .trays)
 

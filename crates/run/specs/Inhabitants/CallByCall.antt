@@ -7,7 +7,7 @@
 --     total s is               what the lengths that the calls on the inputs is return add up to, where the first is handed the state s
 --     LeadsTo n t es h c e s   the call with s on that tray is worked: it sends the longest frame of round t + 1 and leaves a state with the lists h, c, e
 use Prim.Native.Nat.{ℕ, suc, _+_, _*_, _≤_, _<_}
-use mathlib.Core.Bool.{Bool, true, false, not, cond, _&&_, _||_, and-eq-true-iff, and-false, or-true}
+use mathlib.Core.Bool.{true, false, not, cond, _&&_, _||_, and-eq-true-iff, and-false, or-true}
 use mathlib.Core.List.{List, [], _∷_, map, sum, Memᴰ·map, Memᴰ·of-map, Memᴰ·cast}
 use mathlib.Core.Logic.{inl, inr}
 use mathlib.Core.Option.{some}
@@ -15,9 +15,8 @@ use mathlib.Core.Path.{_≡_, refl, sym, ap, _∙_, subst}
 use native.Mathlib.Decide.{ℕ-discrete}
 use native.Mathlib.Omega.{arith}
 use borrow.Author.Tests.{not-true, lt-leb}
-use lib.Dec.{ltb}
 use lib.ListN.{length, replicate}
-use Rattle.controller.specs.Bytes.{frameHeader, numberWidth, maxFrame, maxNumbers, lastRound, kindOf, maxCount, content, one, under, under-one}
+use Rattle.controller.specs.Bytes.{maxFrame, maxNumbers, lastRound, content, one, under, under-one}
 use Rattle.controller.specs.Bytes.{Entry, roundOf, entryCount, wellFormed, entries}
 use Rattle.controller.specs.Lists.{In, Rising, mem, countIf}
 use Rattle.controller.specs.Thirds.{third, twoThirds}
@@ -28,7 +27,6 @@ use Rattle.controller.specs.Bit.{decisionAfter}
 use Rattle.controller.specs.Rules.{nextRound, next}
 use Rattle.controller.specs.Calls.{sentBytes}
 use Rattle.controller.specs.Examples.{packed}
-use Rattle.controller.specs.Laws.Calls.{sent-length}
 use Rattle.controller.specs.Laws.First.{next-stays-sound}
 use Rattle.controller.specs.Laws.Lists.{in-mem, mem-in, out-mem, mem-out, in-or-not, rising-same}
 use Rattle.controller.specs.Laws.Received.{heard-some, received-own, received-other, received-silent, frame-list, stand-in-list}
@@ -39,6 +37,7 @@ use Rattle.controller.specs.Laws.State.{sound-gives}
 use Rattle.controller.specs.declared.state.State.{State}
 use Rattle.run.specs.LinkUse.{answered, bytesOf, longest}
 use Rattle.run.specs.Proof.Calls.{makes-view, makes-size, accepted-makes}
+use Rattle.run.specs.Proof.LinkUse.{sent-longest}
 use Rattle.run.specs.Proof.StepsBit.{count-same}
 use Rattle.run.specs.Proof.StepsRotation.{turn-round-is, list-sent}
 use Rattle.run.specs.Inhabitants.RunTest.{or-right}
@@ -117,12 +116,8 @@ pub record Reached (n t : ℕ) (h c e : List ℕ) (s : State) : Type 0 where
   pub stands : Stands n t h c e (view s)
 
 module _ {n t : ℕ} {h c e : List ℕ} {v : View} (stands : Stands n t h c e v) where
-  pub sent-longest : length (sentBytes v) ≡ longest (length e) t
-  sent-longest = sent-length v (stands .active) ∙ rw (stands .round, stands .echoes) (pick (ltb 0 (maxCount (kindOf t))))
-    where
-      pick : (b : Bool) → frameHeader + numberWidth * length (cond b e []) ≡ frameHeader + numberWidth * cond b (length e) 0
-      pick true = refl
-      pick false = refl
+  pub stands-sends : length (sentBytes v) ≡ longest (length e) t
+  stands-sends = sent-longest v (stands .active) ∙ rw (stands .round, stands .echoes)
 
   -- who makes a propose or a turn with an empty tray keeps its lists
   stands-on : (b : BitPart) → b .decision ≡ v .bit .decision → Stands n (suc t) h c e (nextRound v (hearing ((receive v []) .heard) (v .rotor)) b)
@@ -246,5 +241,5 @@ module _ {n t : ℕ} {es : List Entry} {s : State} {h₀ c₀ e₀ : List ℕ} (
       record {
         after = k .answer .state;
         reached = record { good = rw (returns .state) (next-stays-sound s bytes fits); stands = after };
-        adds = λ is. ap (λ m. m + total (k .answer .state) is) (makes-size returns ∙ sent-longest after ∙ ap (λ m. longest m (suc t)) (few .2));
+        adds = λ is. ap (λ m. m + total (k .answer .state) is) (makes-size returns ∙ stands-sends after ∙ ap (λ m. longest m (suc t)) (few .2));
       }

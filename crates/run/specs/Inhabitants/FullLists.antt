@@ -35,7 +35,7 @@ use Rattle.run.specs.Proof.Calls.{makes-view, makes-size, start-returns,
 use Rattle.run.specs.Proof.LinkUse.{upTo}
 use Rattle.run.specs.Inhabitants.RunTest.{all-pass}
 use Rattle.run.specs.Inhabitants.Played.{Input, controller}
-use Rattle.run.specs.Inhabitants.CallByCall.{sending, Stands, sent-longest, value-stands, propose-stands, turn-stands}
+use Rattle.run.specs.Inhabitants.CallByCall.{sending, Stands, stands-sends, value-stands, propose-stands, turn-stands}
 use Rattle.run.specs.Inhabitants.CallByCall.{offered, Packs, packs-nothing, Reached, total, total-nothing, works}
 
 -- ---- the run
@@ -248,7 +248,7 @@ limit-met =
     let same = sym (makes-view returns) in
     let start : Reached 64 1 (64 ∷ []) [] [] (busiest .start .answer .state) =
     record { good = state-sound busiest _ (start-listed busiest); stands = subst (Stands 64 1 (64 ∷ []) [] []) same start-stands } in
-    let init : busiest .start .answer .length ≡ longest 64 1 = makes-size returns ∙ sent-longest (start .stands) in
+    let init : busiest .start .answer .length ≡ longest 64 1 = makes-size returns ∙ stands-sends (start .stands) in
     let made = subst (λ v. Stands 64 2 members [] members (next v inits)) same roster-stands in
     let roster = works packs-inits start (omega arith) made (sizes 0 .0, omega arith, sizes 0 .2) in
     let rest = phases-total 64 0 (roster .after) (omega arith) (roster .reached) in

@@ -40,6 +40,23 @@ use Rattle.run.specs.Proof.RunSteps.{size, steps, state-held, state-at, 
 pub figure : (suc (headers maxNumbers) ≡ lastRound) × (headers maxNumbers ≡ 194) × (fullLists maxNumbers ≡ 65) × (linkLimit maxNumbers ≡ 18192)
 figure = (refl, refl, refl, refl)
 
+-- ---- one frame
+
+-- the list that is sent is the echoes
+pub sent-longest : (v : View) → undecided v ≡ true → length (sentBytes v) ≡ longest (length (v .rotor .echoes)) (v .round)
+sent-longest v u = sent-length v u ∙ pick (ltb 0 (maxCount (kindOf (v .round))))
+  where
+    pick : (b : Bool) → frameHeader + numberWidth * length (cond b (v .rotor .echoes) []) ≡ frameHeader + numberWidth * cond b (length (v .rotor .echoes)) 0
+    pick true = refl
+    pick false = refl
+
+longest-more : (t : ℕ) {m n : ℕ} → m ≤ n → longest m t ≤ longest n t
+longest-more t {m} {n} h = pick (ltb 0 (maxCount (kindOf t)))
+  where
+    pick : (b : Bool) → frameHeader + numberWidth * cond b m 0 ≤ frameHeader + numberWidth * cond b n 0
+    pick true = omega arith
+    pick false = omega arith
+
 -- ---- round by round
 
 module _ (n : ℕ) where
@@ -84,10 +101,6 @@ sum-along w used s (k ∷ ks) h grows top =
 abbrev Bounded : ℕ → Controller → Type 0
 Bounded n c = (s : State) → Member s (states c) → undecided (view s) ≡ true → (s .round ≤ headers n) × (length ((view s) .rotor .echoes) ≤ n)
 
-list-short : (n : ℕ) (b : Bool) (l : List ℕ) → length l ≤ n → length (cond b l []) ≤ cond b n 0
-list-short n true l h = h
-list-short n false l h = omega arith
-
 cond-less : (b : Bool) (m : ℕ) → cond b m 0 ≤ m
 cond-less true m = omega arith
 cond-less false m = omega arith
@@ -98,9 +111,7 @@ module _ (n : ℕ) (c : Controller) (bounded : Bounded n c) where
 
   sent-short : (s : State) → Member s (states c) → length (sentBytes (view s)) ≤ longest n (s .round)
   sent-short s i = elim (true-or-false (undecided (view s))) [
-    | inl u ↦
-        let short = list-short n (ltb 0 (maxCount (kindOf (s .round)))) ((view s) .rotor .echoes) (bounded s i u .1) in
-        omega (arith, sent-length (view s) u, short)
+    | inl u ↦ omega (arith, sent-longest (view s) u, longest-more (s .round) (bounded s i u .1))
     | inr d ↦ omega (arith, ap length (sent-nothing (view s) d))
   ]
 
