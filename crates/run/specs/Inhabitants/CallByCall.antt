@@ -39,7 +39,7 @@ use Rattle.run.specs.LinkUse.{answered, bytesOf, longest}
 use Rattle.run.specs.Proof.Calls.{makes-view, makes-size, accepted-makes}
 use Rattle.run.specs.Proof.LinkUse.{sent-longest}
 use Rattle.run.specs.Proof.StepsBit.{count-same}
-use Rattle.run.specs.Proof.StepsRotation.{turn-round-is, list-sent}
+use Rattle.run.specs.Proof.StepsRotation.{turnRound, turn-round-is, list-sent}
 use Rattle.run.specs.Inhabitants.RunTest.{or-right}
 use Rattle.run.specs.Inhabitants.Played.{Input, trayCall, played}
 
@@ -139,12 +139,12 @@ module _ {n t : ℕ} {h c e : List ℕ} {v : View} (stands : Stands n t h c e v)
   turn-stands r at = rw (step-turn v (receive v []) r (stands .round ∙ at)) (stands-on _ refl)
 
 -- a sound state that counts lists: those of xs send the bytes b, which list a, and the others are silent
-module _ {n : ℕ} (r : ℕ) {h c e a : List ℕ} {s : State} (before : Reached n (2 + 3 * r) h c e s) (xs b : List ℕ) (others : mem n xs ≡ false)
-    (read : listIn (content b (2 + 3 * r)) ≡ a) (known : (receive (view s) (sending xs b)) .heard ≡ h) where
+module _ {n : ℕ} (r : ℕ) {h c e a : List ℕ} {s : State} (before : Reached n (turnRound r) h c e s) (xs b : List ℕ) (others : mem n xs ≡ false)
+    (read : listIn (content b (turnRound r)) ≡ a) (known : (receive (view s) (sending xs b)) .heard ≡ h) where
   abbrev v : View
   v = view s
 
-  abbrev stands : Stands n (2 + 3 * r) h c e v
+  abbrev stands : Stands n (turnRound r) h c e v
   stands = before .stands
 
   abbrev received : ReceivedLists
@@ -157,24 +157,25 @@ module _ {n : ℕ} (r : ℕ) {h c e a : List ℕ} {s : State} (before : Reached 
   tally-is : (x : ℕ) → tally received x ≡ counted x
   tally-is x =
       let apart : ¬ In (v .own) xs = rw (stands .own) (mem-out xs others) in
-      let sent : listIn (some (frameOf v)) ≡ e = frame-list v ∙ rw (stands .round, sym (turn-round-is r), list-sent r) (stands .echoes) in
+      let sent : listIn (some (frameOf v)) ≡ e = frame-list v ∙ rw (stands .round, list-sent r) (stands .echoes) in
       tally-from v xs b (stands .heard) apart (ap (λ t. listIn (content b t)) (stands .round) ∙ read) sent x known
 
   -- so the candidates become m and the echoes w, where m has too many numbers for a decision in phase r
   pub value-stands : (m w : List ℕ) → Rising m → Rising w → r < length m
       → ((x : ℕ) → ((third (counted x) (length h) && not (mem x c)) ≡ mem x w) × ((mem x c || twoThirds (counted x) (length h)) ≡ mem x m))
-      → Stands n (suc (2 + 3 * r)) h m w (next v (sending xs b))
+      → Stands n (suc (turnRound r)) h m w (next v (sending xs b))
   unfolding decisionAfter decides
   value-stands m w m-rises w-rises early test =
       let good = sound-gives s (before .good) in
       let somebody = heard-some v (sending xs b) good in
       let old = stands .candidates in
+      let at = stands .round ∙ turn-round-is r in
       let echoes = echoed-are (v .rotor) received somebody w w-rises (λ x. rw (tally-is x, known, old) (test x .0)) in
       let candidates = candidates-are (v .rotor) received somebody (good .candidates .rises) m m-rises (λ x. rw (tally-is x, known, old) (test x .1)) in
-      rw (step-value v (receive v (sending xs b)) r (stands .round)) (record {
+      rw (step-value v (receive v (sending xs b)) r at) (record {
         own = stands .own;
         round = omega (arith, stands .round);
-        active = rw (candidates, phase-is v r (stands .round), lt-leb (length m) r early, and-false (undecided v)) (stands .active);
+        active = rw (candidates, phase-is v r at, lt-leb (length m) r early, and-false (undecided v)) (stands .active);
         heard = known;
         candidates = candidates;
         echoes = echoes;

@@ -3,7 +3,7 @@
 --     members                64 numbers, the own one, 64, among them; all are heard from the first tray on
 --     strangers              64 others, which nobody has
 --     speakers               just a third of the members: 22
---     listRound r            the round whose lists phase r counts; in its tray sendersIn r have entries, all with the frame frameIn r
+--     entriesIn r            what the tray of round 2 + 3r has, whose lists phase r counts: the same frame, frameIn r, from each of sendersIn r
 --     phases r n             the trays of the n phases from r on, those between the rounds of lists empty
 --     busiest                the controller that gets these; limit-met, that it sends so much
 --     candidatesIn r         the candidates before phase r; echoesIn r, the echoes; spoken r, what the speakers list in that phase
@@ -11,7 +11,7 @@
 -- In phase 0 all others are silent, which counts as the own list: all the members become candidates, and with 64 of them there is no decision before phase
 -- 64. In phase 1 the speakers list the strangers, a third: these are echoed. After that the speakers send void frames and the others are silent, so the own
 -- list has 42 voices, more than a third and less than two thirds: the strangers are echoed again in each phase and never become candidates.
-use Prim.Native.Nat.{ℕ, zero, suc, _+_, _*_, _≤_, _<_}
+use Prim.Native.Nat.{ℕ, zero, suc, _+_, _≤_, _<_}
 use mathlib.Core.Bool.{Bool, true, false, not, cond, _&&_, _||_}
 use mathlib.Core.List.{List, [], _∷_, sum}
 use mathlib.Core.Logic.{inl, inr}
@@ -33,6 +33,7 @@ use Rattle.run.specs.LinkUse.{longest, linkLimit, bytesSent}
 use Rattle.run.specs.Run.{Controller}
 use Rattle.run.specs.Proof.Calls.{makes-view, makes-size, start-returns, start-listed, state-sound}
 use Rattle.run.specs.Proof.LinkUse.{upTo}
+use Rattle.run.specs.Proof.StepsRotation.{turnRound, turn-round-is}
 use Rattle.run.specs.Inhabitants.RunTest.{all-pass}
 use Rattle.run.specs.Inhabitants.Played.{Input, controller}
 use Rattle.run.specs.Inhabitants.CallByCall.{sending, Stands, stands-sends, value-stands, propose-stands, turn-stands}
@@ -61,9 +62,6 @@ inits = sending (from 1 63) (0 ∷ 0 ∷ 0 ∷ 1 ∷ 1 ∷ 2 ∷ 0 ∷ 0 ∷ [])
 unfoldable pub strangersTurn : List ℕ
 strangersTurn = frameBytes (record { round = 5; said = saidBy 5 2; numbers = strangers })
 
-abbrev pub listRound : ℕ → ℕ
-listRound r = 2 + 3 * r
-
 -- in phase 0 there are none
 abbrev pub sendersIn : ℕ → List ℕ
 sendersIn zero = []
@@ -81,7 +79,7 @@ entriesIn r = sending (sendersIn r) (frameIn r)
 unfoldable pub phases : ℕ → ℕ → List Input
 phases r zero = []
 phases r (suc n) =
-    offered (listRound r) (entriesIn r) ∷ offered (suc (listRound r)) [] ∷ offered (suc (suc (listRound r))) [] ∷ phases (suc r) n
+    offered (turnRound r) (entriesIn r) ∷ offered (suc (turnRound r)) [] ∷ offered (suc (suc (turnRound r))) [] ∷ phases (suc r) n
 
 abbrev pub busiest : Controller
 busiest = controller 64 0 refl (offered 1 inits ∷ phases 0 64)
@@ -90,7 +88,7 @@ packs-inits : Packs 64 1 inits
 unfolding roundOf entryCount sender wellFormed part entries
 packs-inits = record { well = refl; round = refl; back = refl; nonzero = refl; others = refl }
 
-packs-lists : (r : ℕ) → Packs 64 (listRound r) (entriesIn r)
+packs-lists : (r : ℕ) → Packs 64 (turnRound r) (entriesIn r)
 unfolding roundOf entryCount sender wellFormed part entries frameBytes saidBy chosenBy strangersTurn strangers speakers
 packs-lists zero = packs-nothing 64 2
 packs-lists (suc zero) = record { well = refl; round = refl; back = refl; nonzero = refl; others = refl }
@@ -177,7 +175,7 @@ becomes (suc (suc r)) x = echoed-still (mem x strangers) (mem x members) (no-mem
 
 -- ---- a round of lists
 
-list-read : (r : ℕ) → listIn (content (frameIn r) (listRound r)) ≡ spoken r
+list-read : (r : ℕ) → listIn (content (frameIn r) (turnRound r)) ≡ spoken r
 unfolding kindOf chosenBy saidBy bitFits maxCount lengthFits roundFits headFits bodyFits readRefusal content frameBytes strangersTurn strangers
 list-read zero = refl
 list-read (suc zero) = refl
@@ -195,9 +193,9 @@ own-silent (suc r) = refl
 
 -- where phase r begins
 abbrev InPhase : ℕ → State → Type 0
-InPhase r s = Reached 64 (listRound r) members (candidatesIn r) (echoesIn r) s
+InPhase r s = Reached 64 (turnRound r) members (candidatesIn r) (echoesIn r) s
 
-lists-stand : (r : ℕ) (s : State) → InPhase r s → r < 64 → Stands 64 (suc (listRound r)) members members (echoesIn (suc r)) (next (view s) (entriesIn r))
+lists-stand : (r : ℕ) (s : State) → InPhase r s → r < 64 → Stands 64 (suc (turnRound r)) members members (echoesIn (suc r)) (next (view s) (entriesIn r))
 unfolding voices
 lists-stand r s before early =
     let size = members-full .1 in
@@ -211,20 +209,19 @@ sizes : (r : ℕ) → (length members ≤ maxNumbers) × (length members ≤ max
 sizes r = (omega (arith, members-full .1), omega (arith, members-full .1), echoes-full r .1)
 
 -- what was allowed up to phase r was sent, and so it goes on
-phases-total : (n r : ℕ) (s : State) → r + n ≤ 64 → InPhase r s → upTo 64 (listRound r) + total s (phases r n) ≡ upTo 64 (listRound (r + n))
+phases-total : (n r : ℕ) (s : State) → r + n ≤ 64 → InPhase r s → upTo 64 (turnRound r) + total s (phases r n) ≡ upTo 64 (turnRound (r + n))
 unfolding phases
 phases-total zero r s early h = let end : r + 0 ≡ r = omega arith in rw end (omega (arith, total-nothing s))
 phases-total (suc n) r s early h =
-    let t = listRound r in
+    let t = turnRound r in
+    let at = turn-round-is r in
     let value = works (packs-lists r) h (omega arith) (lists-stand r s h (omega arith)) (sizes (suc r)) in
     let valued = value .reached in
     let propose = works (packs-nothing 64 (suc t)) valued (omega arith) (propose-stands (valued .stands) r (omega arith)) (sizes (suc r)) in
     let proposed = propose .reached in
     let turn = works (packs-nothing 64 (suc (suc t))) proposed (omega arith) (turn-stands (proposed .stands) r (omega arith)) (sizes (suc r)) in
-    let later : listRound (suc r) ≡ suc (suc (suc t)) = omega arith in
     let end : suc r + n ≡ r + suc n = omega arith in
-    let reached = subst (λ t. Reached 64 t members members (echoesIn (suc r)) (turn .after)) (sym later) (turn .reached) in
-    let rest = rw (later, end) at (phases-total n (suc r) (turn .after) (omega arith) reached) in
+    let rest = rw end at (phases-total n (suc r) (turn .after) (omega arith) (turn .reached)) in
     let others = phases (suc r) n in
     let last = offered (suc (suc t)) [] ∷ others in
     omega (arith, value .adds (offered (suc t) [] ∷ last), propose .adds last, turn .adds others, rest)

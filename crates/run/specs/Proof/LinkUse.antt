@@ -21,7 +21,7 @@ use Rattle.controller.specs.Calls.{sentBytes}
 use Rattle.controller.specs.State.{View, view, undecided}
 use Rattle.controller.specs.Laws.Calls.{sent-nothing, sent-length}
 use Rattle.controller.specs.Laws.Lists.{true-or-false}
-use Rattle.controller.specs.Laws.Rules.{kind-later, last-round-decides}
+use Rattle.controller.specs.Laws.Rules.{last-round-decides}
 use Rattle.controller.specs.Laws.State.{sound-gives}
 use Rattle.controller.specs.declared.state.Answer.{Answer}
 use Rattle.controller.specs.declared.state.State.{State}
@@ -33,6 +33,7 @@ use Rattle.run.specs.Proof.Calls.{returned-listed, state-sound, state-la
 use Rattle.run.specs.Proof.Agreement.{state-works}
 use Rattle.run.specs.Proof.Held.{at-most}
 use Rattle.run.specs.Proof.Protocol.{deadline, echoes-short}
+use Rattle.run.specs.Proof.StepsRotation.{turnRound, turn-round-is, kind-value, kind-propose, kind-turn}
 use Rattle.run.specs.Proof.RunSteps.{size, steps, state-held, state-at, correct-number, step-rules}
 
 -- ---- the figure
@@ -67,23 +68,14 @@ module _ (n : ℕ) where
   up-to-more : (s t : ℕ) → s ≤ t → upTo s ≤ upTo t
   up-to-more s t = le-ind (λ t. upTo s ≤ upTo t) (omega arith) (λ t l before. omega arith) t
 
-  -- a value, a propose and a turn
-  phase-adds : (r : ℕ) → upTo (suc (suc (suc (2 + 3 * r)))) ≡ upTo (2 + 3 * r) + (3 * frameHeader + n * numberWidth)
-  unfolding maxCount
-  phase-adds r =
-      let value : kindOf (suc (2 + 3 * r)) ≡ 3 = kind-later _ 0 (omega arith) (omega arith) in
-      let propose : kindOf (suc (suc (2 + 3 * r))) ≡ 4 = kind-later _ 1 (omega arith) (omega arith) in
-      let turn : kindOf (suc (suc (suc (2 + 3 * r)))) ≡ 5 = kind-later _ 2 (omega arith) (omega arith) in
-      rw (value, propose, turn) (omega arith)
-
-  phases-add : (r : ℕ) → upTo (headers r) ≡ headers r * frameHeader + fullLists r * (n * numberWidth)
+  -- each phase adds a value, a propose and a turn
+  phases-add : (r : ℕ) → upTo (turnRound r) ≡ headers r * frameHeader + fullLists r * (n * numberWidth)
   unfolding kindOf maxCount
   phases-add zero = omega arith
   phases-add (suc r) =
-      let next : headers (suc r) ≡ suc (suc (suc (headers r))) = omega arith in
       let one-more : fullLists (suc r) ≡ suc (fullLists r) = omega arith in
       let more = suc-mul (fullLists r) (n * numberWidth) in
-      rw (next, one-more) (omega (arith, phase-adds r, phases-add r, more))
+      rw (one-more, kind-value r, kind-propose r, kind-turn r) (omega (arith, phases-add r, more))
 
 -- ---- call by call
 
@@ -192,7 +184,7 @@ module _ (n : ℕ) (c : Controller) (bounded : Bounded n c) where
   all-bytes =
       let rest = sum-along (λ (a : Answer). a .length) allowed begun (c .trays) (c .handed) call-allowed allowed-most in
       let first : c .start .answer .length ≤ allowed begun = rw (start-undecided c, start-round c) (omega (arith, start-short)) in
-      omega (arith, rest, first, phases-add n n)
+      omega (arith, rest, first, phases-add n n, ap (upTo n) (turn-round-is n))
 
   bounded-use : LinkUse n c
   bounded-use = record { rounds = round-bytes; total = all-bytes }
