@@ -1,0 +1,157 @@
+//! Reads what a faulty one tells: the words behind the colon.
+
+use std::collections::BTreeSet;
+use std::ops::RangeInclusive;
+
+use checks::packing::NONE;
+
+use crate::mistake::Mistake;
+use crate::parse::{bytes, span};
+use crate::scenario::{Saying, Scenario, MOST_FRAMES, MOST_LISTED};
+use crate::tokens::Words;
+use crate::words::{self, ALWAYS_ALLOWED};
+
+/// Whether the next words begin another deed.
+pub fn starts_deed(words: &Words) -> bool {
+    match words.peek() {
+        Some("faulty" | "junk") => true,
+        Some(word) => {
+            let verb = matches!(words.after(1), Some("tells" | "tell" | "plays" | "play"));
+            verb && word.parse::<u32>().is_ok()
+        }
+        None => false,
+    }
+}
+
+/// `value 0`, or several frames: `value 0 and garbled`.
+pub fn sayings(
+    words: &mut Words,
+    scenario: &Scenario,
+    rounds: &RangeInclusive<u32>,
+) -> Result<Vec<Saying>, Mistake> {
+    let mut all = Vec::new();
+    loop {
+        let saying = saying(words, scenario, rounds)?;
+        if let Some(round) = rounds.clone().find(|&round| !saying.fits(round)) {
+            let what = format!("`{saying}` is not of round {round}, a {} round", words::kind(round));
+            return Err(words.at_last(what, allowed(rounds)));
+        }
+        all.push(saying);
+        if !words.take_if(&["and"]) {
+            break;
+        }
+    }
+    if all.len() > 1 && all.contains(&Saying::Silent) {
+        return Err(words.at_last("silent is no frame", "silent alone, or frames with and"));
+    }
+    if all.iter().map(Saying::frames).sum::<usize>() > MOST_FRAMES {
+        let allowed = format!("at most {MOST_FRAMES} frames for one receiver");
+        return Err(words.at_last("these are too many frames", allowed));
+    }
+    match words.peek().is_none() || starts_deed(words) {
+        true => Ok(all),
+        false => {
+            let what = format!("after what is told stands {}", words.next_shown());
+            Err(words.at_next(what, "and with another frame, another deed, or the end of the line"))
+        }
+    }
+}
+
+fn allowed(rounds: &RangeInclusive<u32>) -> String {
+    match rounds.start() == rounds.end() {
+        true => words::allowed(*rounds.start()),
+        false => format!("in several rounds: {ALWAYS_ALLOWED}"),
+    }
+}
+
+fn saying(
+    words: &mut Words,
+    scenario: &Scenario,
+    rounds: &RangeInclusive<u32>,
+) -> Result<Saying, Mistake> {
+    let Some(word) = words.take() else {
+        return Err(words.at_next("it is not said what is told", allowed(rounds)));
+    };
+    Ok(match word {
+        "honest" => Saying::Honest,
+        "bit" => Saying::Bit(bit(words)?),
+        "init" => Saying::Init,
+        "lists" => Saying::Lists(list(words)?),
+        "value" => Saying::Value(bit(words)?),
+        "propose" | "proposes" => Saying::Propose(choice(words)?),
+        "opinion" => {
+            let opinion = choice(words)?;
+            let list = match words.take_if(&["lists"]) {
+                true => list(words)?,
+                false => Vec::new(),
+            };
+            Saying::Opinion(opinion, list)
+        }
+        "garbled" => Saying::Garbled,
+        "stale" => Saying::Stale,
+        "cut" => Saying::Cut,
+        "empty" => Saying::Empty,
+        "silent" => Saying::Silent,
+        "twice" => Saying::Twice,
+        "repeats" => Saying::Repeats(repeated(words, scenario)?),
+        "bytes" => Saying::Bytes(bytes(words)?),
+        "anything" => Saying::Anything,
+        _ => {
+            let what = format!("`{word}` is nothing that can be told");
+            return Err(words.at_last(what, allowed(rounds)));
+        }
+    })
+}
+
+fn bit(words: &mut Words) -> Result<u8, Mistake> {
+    match words.take() {
+        Some("0") => Ok(0),
+        Some("1") => Ok(1),
+        Some(word) => Err(words.at_last(format!("`{word}` is no bit"), "0, 1")),
+        None => Err(words.at_next("the bit is missing", "0, 1")),
+    }
+}
+
+fn choice(words: &mut Words) -> Result<u8, Mistake> {
+    match words.take_if(&["none"]) {
+        true => Ok(NONE),
+        false => bit(words).map_err(|mistake| Mistake {
+            allowed: "0, 1, none".into(),
+            ..mistake
+        }),
+    }
+}
+
+/// The numbers of a list, which may be anybody's and nobody's; `nothing` for none.
+fn list(words: &mut Words) -> Result<Vec<u32>, Mistake> {
+    let form = format!("up to {MOST_LISTED} numbers, as in lists 3 5 1000-1009, or lists nothing");
+    if words.take_if(&["nothing"]) {
+        return Ok(Vec::new());
+    }
+    let mut all = BTreeSet::new();
+    let is_number = |word: &str| word.starts_with(|c: char| c.is_ascii_digit());
+    while words.peek().is_some_and(is_number) && !starts_deed(words) {
+        let word = words.take().unwrap_or_default();
+        for number in span(words, word, &form)? {
+            if !all.insert(number) {
+                return Err(words.at_last(format!("{number} is listed twice"), form));
+            }
+            if all.len() > MOST_LISTED {
+                return Err(words.at_last("these are too many numbers", form));
+            }
+        }
+    }
+    match all.is_empty() {
+        true => Err(words.at_next("the numbers are missing", form)),
+        false => Ok(all.into_iter().collect()),
+    }
+}
+
+fn repeated(words: &mut Words, scenario: &Scenario) -> Result<u32, Mistake> {
+    let form = format!("a correct one: {}", words::numbers(scenario.correct.keys()));
+    let word = words.take().unwrap_or_default();
+    match word.parse() {
+        Ok(number) if scenario.correct.contains_key(&number) => Ok(number),
+        _ => Err(words.at_last(format!("`{word}` is no correct one"), form)),
+    }
+}

@@ -1,0 +1,104 @@
+//! The words of a scenario's line, with their places, and how to take them one by one.
+
+use crate::mistake::Mistake;
+
+#[derive(Clone, Debug)]
+pub struct Token {
+    pub text: String,
+    /// Its first character in the line, from 0.
+    pub column: usize,
+}
+
+/// A line's words without its remark. A colon is a word by itself.
+pub fn tokens(line: &str) -> Vec<Token> {
+    let mut all: Vec<Token> = Vec::new();
+    let mut open = false;
+    let kept = line.chars().take_while(|&c| c != '#');
+    for (column, character) in kept.enumerate() {
+        match character {
+            c if c.is_whitespace() || c.is_control() => open = false,
+            ':' => {
+                all.push(Token { text: ":".into(), column });
+                open = false;
+            }
+            c if open => all.last_mut().expect("an open word").text.push(c),
+            c => {
+                all.push(Token { text: c.into(), column });
+                open = true;
+            }
+        }
+    }
+    all
+}
+
+/// The words that are left of a line.
+pub struct Words<'a> {
+    line: usize,
+    all: &'a [Token],
+    next: usize,
+}
+
+impl<'a> Words<'a> {
+    pub fn of(line: usize, all: &'a [Token]) -> Words<'a> {
+        Words { line, all, next: 0 }
+    }
+
+    pub fn line(&self) -> usize {
+        self.line
+    }
+
+    pub fn peek(&self) -> Option<&'a str> {
+        self.after(0)
+    }
+
+    /// The word so many behind the next.
+    pub fn after(&self, count: usize) -> Option<&'a str> {
+        self.all.get(self.next + count).map(|t| t.text.as_str())
+    }
+
+    pub fn take(&mut self) -> Option<&'a str> {
+        let word = self.peek();
+        self.next += usize::from(word.is_some());
+        word
+    }
+
+    /// Takes the next word if it is one of these.
+    pub fn take_if(&mut self, words: &[&str]) -> bool {
+        let is = self.peek().is_some_and(|word| words.contains(&word));
+        self.next += usize::from(is);
+        is
+    }
+
+    /// A mistake at the word taken last.
+    pub fn at_last(&self, what: impl Into<String>, allowed: impl Into<String>) -> Mistake {
+        self.at(self.next.saturating_sub(1), what, allowed)
+    }
+
+    /// A mistake at the next word, or behind the line's end.
+    pub fn at_next(&self, what: impl Into<String>, allowed: impl Into<String>) -> Mistake {
+        self.at(self.next, what, allowed)
+    }
+
+    fn at(&self, place: usize, what: impl Into<String>, allowed: impl Into<String>) -> Mistake {
+        let end = |t: &Token| t.column + t.text.chars().count();
+        let (column, length) = match self.all.get(place) {
+            Some(token) => (token.column, end(token) - token.column),
+            None => (self.all.last().map_or(0, |t| end(t) + 1), 1),
+        };
+        Mistake {
+            line: self.line,
+            column,
+            length,
+            what: what.into(),
+            allowed: allowed.into(),
+        }
+    }
+
+    /// What stands next, for a message.
+    pub fn next_shown(&self) -> String {
+        match self.peek() {
+            Some(word) => format!("`{word}`"),
+            None => "the end of the line".into(),
+        }
+    }
+}

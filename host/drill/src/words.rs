@@ -1,0 +1,179 @@
+//! The words for what is told, as a scenario has them and as the drill shows them.
+
+use std::fmt::{self, Display, Formatter};
+
+use checks::packing::{has_list, kind_of, numbers_in, INIT, NONE, PROPOSE, ROSTER, TURN, VALUE};
+
+use crate::scenario::{Junk, Saying, Whom};
+
+/// Numbers with a blank between them, three and more neighbours as `4-9`.
+pub fn numbers<'a>(list: impl IntoIterator<Item = &'a u32>) -> String {
+    let mut runs: Vec<(u32, u32)> = Vec::new();
+    for &number in list {
+        match runs.last_mut() {
+            Some((_, last)) if last.checked_add(1) == Some(number) => *last = number,
+            _ => runs.push((number, number)),
+        }
+    }
+    let words: Vec<String> = runs.into_iter().map(run).collect();
+    words.join(" ")
+}
+
+fn run((first, last): (u32, u32)) -> String {
+    match last - first {
+        0 => format!("{first}"),
+        1 => format!("{first} {last}"),
+        _ => format!("{first}-{last}"),
+    }
+}
+
+/// The same for a sentence: `5, 7 and 9`.
+pub fn named(list: &[u32]) -> String {
+    let text = numbers(list);
+    match text.rsplit_once(' ') {
+        Some((front, last)) => format!("{} and {last}", front.replace(' ', ", ")),
+        None => text,
+    }
+}
+
+/// The name of what is sent in a round.
+pub fn kind(round: u32) -> &'static str {
+    match kind_of(round) {
+        INIT => "init",
+        ROSTER => "roster",
+        VALUE => "value",
+        PROPOSE => "propose",
+        _ => "turn",
+    }
+}
+
+/// The phase of a round, if it is in one.
+pub fn phase(round: u32) -> Option<u32> {
+    Some(round.checked_sub(3)? / 3)
+}
+
+/// What bytes say to who expects a frame of a round.
+pub fn reading(bytes: &[u8], round: u32) -> String {
+    match engine::frame(bytes, round) {
+        0 => said(bytes, round).to_string(),
+        _ if bytes.is_empty() => "empty".into(),
+        11 => "cut".into(),
+        12 => "stale".into(),
+        _ => "garbled".into(),
+    }
+}
+
+/// What a frame says that reads in its round.
+fn said(bytes: &[u8], round: u32) -> Saying {
+    let (bit, list) = (bytes[5], numbers_in(bytes));
+    match kind_of(round) {
+        INIT => Saying::Init,
+        ROSTER => Saying::Lists(list),
+        VALUE => Saying::Value(bit),
+        PROPOSE => Saying::Propose(bit),
+        _ if bit == NONE => Saying::Lists(list),
+        _ => Saying::Opinion(bit, list),
+    }
+}
+
+/// What one was told in a round: no frame, one, or several.
+pub fn readings(frames: &[Vec<u8>], round: u32) -> String {
+    let each: Vec<String> = frames.iter().map(|bytes| reading(bytes, round)).collect();
+    match each.is_empty() {
+        true => "silent".into(),
+        false => each.join(" and "),
+    }
+}
+
+/// The words that can stand behind `tells ..:` in a round.
+pub fn allowed(round: u32) -> String {
+    let own = match kind_of(round) {
+        INIT => "init",
+        ROSTER => "lists 3 5",
+        VALUE => "value 0, value 1",
+        PROPOSE => "propose 0, propose 1, propose none",
+        TURN => "lists 3 5, opinion 0, opinion 1 lists 3 5",
+        _ => "",
+    };
+    format!("{own}, {ALWAYS_ALLOWED}")
+}
+
+/// The words for what can be told in any round.
+pub const ALWAYS_ALLOWED: &str = "bit 0, bit 1, honest, garbled, stale, cut, empty, silent, \
+                                  twice, repeats 5, anything, bytes 00 ff";
+
+/// The words for junk.
+pub const JUNK_ALLOWED: &str = "noise, cut, old, forged, crowd, bytes 00 ff";
+
+impl Display for Saying {
+    fn fmt(&self, f: &mut Formatter) -> fmt::Result {
+        match self {
+            Saying::Honest => f.write_str("honest"),
+            Saying::Bit(bit) => write!(f, "bit {bit}"),
+            Saying::Init => f.write_str("init"),
+            Saying::Lists(list) => write!(f, "lists {}", listed(list)),
+            Saying::Value(bit) => write!(f, "value {bit}"),
+            Saying::Propose(bit) => write!(f, "propose {}", choice(*bit)),
+            Saying::Opinion(bit, list) if list.is_empty() => write!(f, "opinion {}", choice(*bit)),
+            Saying::Opinion(bit, list) => {
+                write!(f, "opinion {} lists {}", choice(*bit), listed(list))
+            }
+            Saying::Garbled => f.write_str("garbled"),
+            Saying::Stale => f.write_str("stale"),
+            Saying::Cut => f.write_str("cut"),
+            Saying::Empty => f.write_str("empty"),
+            Saying::Silent => f.write_str("silent"),
+            Saying::Twice => f.write_str("twice"),
+            Saying::Repeats(number) => write!(f, "repeats {number}"),
+            Saying::Bytes(bytes) => write!(f, "bytes {}", hex(bytes)),
+            Saying::Anything => f.write_str("anything"),
+        }
+    }
+}
+
+impl Display for Junk {
+    fn fmt(&self, f: &mut Formatter) -> fmt::Result {
+        match self {
+            Junk::Noise => f.write_str("noise"),
+            Junk::Cut => f.write_str("cut"),
+            Junk::Old => f.write_str("old"),
+            Junk::Forged => f.write_str("forged"),
+            Junk::Crowd => f.write_str("crowd"),
+            Junk::Bytes(bytes) => write!(f, "bytes {}", hex(bytes)),
+        }
+    }
+}
+
+impl Display for Whom {
+    fn fmt(&self, f: &mut Formatter) -> fmt::Result {
+        match self {
+            Whom::All => f.write_str("all"),
+            Whom::Each => f.write_str("each"),
+            Whom::These(list) => f.write_str(&numbers(list)),
+        }
+    }
+}
+
+fn listed(list: &[u32]) -> String {
+    match list.is_empty() {
+        true => "nothing".into(),
+        false => numbers(list),
+    }
+}
+
+fn choice(bit: u8) -> String {
+    match bit {
+        NONE => "none".into(),
+        _ => bit.to_string(),
+    }
+}
+
+fn hex(bytes: &[u8]) -> String {
+    let pairs: Vec<String> = bytes.iter().map(|byte| format!("{byte:02x}")).collect();
+    pairs.join(" ")
+}
+
+/// Whether a round's frames carry a list.
+pub fn carries_list(round: u32) -> bool {
+    has_list(kind_of(round))
+}
