@@ -82,7 +82,7 @@ pub fn plan(seed: u64, scenario: &Scenario) -> Vec<Order> {
             orders.extend(deeds.into_iter().map(|deed| Order {
                 line: 0,
                 rounds: round..=round,
-                seed,
+                seed: Order::SEED,
                 deed,
             }));
         }

@@ -14,8 +14,12 @@
 
 #![forbid(unsafe_code)]
 
+pub mod arguments;
+pub mod bundled;
+pub mod cells;
 pub mod controller;
 pub mod junk;
+pub mod layout;
 pub mod liar;
 pub mod mistake;
 pub mod parse;
@@ -23,7 +27,10 @@ pub mod run;
 pub mod sayings;
 pub mod scenario;
 pub mod story;
+pub mod table;
 pub mod telling;
 pub mod tokens;
 pub mod verdict;
 pub mod words;
+pub mod worst;
+pub mod write;

@@ -1,17 +1,116 @@
-fn main() {
-    let text = std::fs::read_to_string(std::env::args().nth(1).unwrap()).unwrap();
-    let scenario = match drill::parse::parse(&text) {
-        Ok(s) => s,
-        Err(m) => { println!("{}", drill::mistake::shown("x", &text, &m)); return; }
-    };
-    let run = drill::run::run(&scenario, drill::controller::Rule::Engine).unwrap();
-    for r in &run.rounds {
-        println!("round {}", r.round);
-        for s in &r.correct {
-            println!("  {}: {} bit {} king {} {}/{} d{}", s.state.number, if s.sent.is_empty() {"-".into()} else {drill::words::reading(&s.sent, r.round)}, s.state.bit, s.state.king, s.state.heard.len(), s.state.candidates.len(), s.state.decision);
+//! The command: runs a scenario and shows what happened.
+//!
+//! It ends with 0 if the correct ones agree, 1 if agreement is broken, 2 if the scenario or
+//! the words of the command are wrong, and then nothing is run.
+
+#![forbid(unsafe_code)]
+
+use std::io::{self, IsTerminal, Read, Write};
+use std::process::{Command, ExitCode, Stdio};
+use std::{env, fs};
+
+use drill::arguments::{Arguments, USAGE};
+use drill::run::{run, Run};
+use drill::scenario::Scenario;
+use drill::verdict::verdict;
+use drill::{bundled, mistake, parse, table, worst, write};
+
+/// The width where the output is no terminal.
+const WIDTH: usize = 100;
+
+fn main() -> ExitCode {
+    let words: Vec<String> = env::args().skip(1).collect();
+    match drill(&words) {
+        Ok(agreed) => ExitCode::from(u8::from(!agreed)),
+        Err(message) => {
+            eprint!("{message}");
+            ExitCode::from(2)
         }
-        for (i,f) in scenario.faulty.iter().enumerate() { println!("  {f}: {:?}", drill::story::groups(&run, r, i)); }
     }
-    println!("{}", drill::verdict::verdict(&run).text);
-    for l in drill::story::story(&run) { println!("{l}"); }
+}
+
+/// Whether the correct ones agreed; else what is wrong with what was asked.
+fn drill(words: &[String]) -> Result<bool, String> {
+    let arguments = Arguments::read(words)?;
+    if arguments.help {
+        print(&format!("{USAGE}\n{}", bundled::listing()));
+        return Ok(true);
+    }
+    let name = arguments.scenario.as_deref().unwrap_or(bundled::FIRST);
+    let text = text(name)?;
+    let wrong = |mistakes: &[mistake::Mistake]| mistake::shown(name, &text, mistakes);
+    let scenario = parse::parse(&text).map_err(|mistakes| wrong(&mistakes))?;
+    if let Some(tries) = arguments.worst {
+        return search(&scenario, tries, &arguments);
+    }
+    let run = run(&scenario, arguments.rule).map_err(|mistake| wrong(&[mistake]))?;
+    save(&run, &text, arguments.page.as_deref())?;
+    print(&table::shown(&run, width(&arguments), has_colour()));
+    if words.is_empty() {
+        print(&format!("\nThat was the scenario {name}. What else there is:\n\n{USAGE}\n{}", bundled::listing()));
+    }
+    Ok(verdict(&run).agreed)
+}
+
+/// Prints the scenario of the worst liar found.
+fn search(line: &Scenario, tries: u64, arguments: &Arguments) -> Result<bool, String> {
+    if line.faulty.is_empty() {
+        return Err("--worst: nobody on this line is faulty, so that nobody lies\n".into());
+    }
+    let worst = worst::worst(line, tries, arguments.rule);
+    let text = write::write(&worst);
+    let run = run(&worst, arguments.rule).expect("a plan has no junk");
+    save(&run, &text, arguments.page.as_deref())?;
+    print(&text);
+    Ok(verdict(&run).agreed)
+}
+
+/// A scenario's text: standard input, one that comes with the drill, or a file.
+fn text(name: &str) -> Result<String, String> {
+    if name == "-" {
+        let mut text = String::new();
+        let read = io::stdin().read_to_string(&mut text);
+        return read.map(|_| text).map_err(|error| format!("standard input: {error}\n"));
+    }
+    match bundled::text(name) {
+        Some(text) => Ok(text.into()),
+        None => fs::read_to_string(name).map_err(|error| {
+            format!("{name}: {error}\nThese scenarios come with the drill:\n{}", bundled::listing())
+        }),
+    }
+}
+
+/// Writes the page, or the picture alone if the file's name ends so.
+fn save(run: &Run, text: &str, file: Option<&str>) -> Result<(), String> {
+    let Some(file) = file else { return Ok(()) };
+    let content = match file.ends_with(".svg") {
+        true => format!("{}", run.rounds.len()),
+        false => text.to_string(),
+    };
+    fs::write(file, content).map_err(|error| format!("{file}: {error}\n"))
+}
+
+/// Who reads the output may stop reading.
+fn print(text: &str) {
+    let _ = io::stdout().write_all(text.as_bytes());
+}
+
+fn has_colour() -> bool {
+    let unset = env::var_os("NO_COLOR").is_none_or(|value| value.is_empty());
+    unset && io::stdout().is_terminal()
+}
+
+/// The width asked for, or the terminal's.
+fn width(arguments: &Arguments) -> usize {
+    let told = || env::var("COLUMNS").ok()?.parse().ok();
+    let terminal = || if io::stdout().is_terminal() { told().or_else(asked) } else { None };
+    arguments.width.or_else(terminal).unwrap_or(WIDTH)
+}
+
+/// What `stty` says of the terminal's width.
+fn asked() -> Option<usize> {
+    let mut stty = Command::new("stty");
+    let size = stty.arg("size").stdin(Stdio::inherit()).stderr(Stdio::null()).output().ok()?;
+    let size = String::from_utf8(size.stdout).ok()?;
+    size.split_whitespace().nth(1)?.parse().ok().filter(|&width| width > 0)
 }

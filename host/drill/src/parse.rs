@@ -11,8 +11,6 @@ use crate::words::{self, JUNK_ALLOWED};
 
 /// What a line of a scenario can begin with.
 const HEADS: &str = "line, faulty, round, rounds, from, always, seed";
-/// The seed where none is given.
-const SEED: u64 = 1;
 
 type Parsed<T> = Result<T, Mistake>;
 
@@ -171,7 +169,7 @@ fn when(words: &mut Words) -> Parsed<(RangeInclusive<u32>, u64)> {
     };
     match words.take_if(&["seed"]) {
         true => Ok((rounds, seed(words)?)),
-        false => Ok((rounds, SEED)),
+        false => Ok((rounds, Order::SEED)),
     }
 }
 

@@ -40,6 +40,11 @@ pub struct Order {
     pub deed: Deed,
 }
 
+impl Order {
+    /// The seed where none is given.
+    pub const SEED: u64 = 1;
+}
+
 #[derive(Clone, Debug, PartialEq, Eq)]
 pub enum Deed {
     Tells {

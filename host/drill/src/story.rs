@@ -6,7 +6,7 @@ use std::collections::{BTreeMap, BTreeSet};
 use crate::controller::Rule;
 use crate::run::{Round, Run};
 use crate::verdict::endings;
-use crate::words::{kind, named, numbers, phase, readings};
+use crate::words::{kind, named, numbers, phase, readings, times};
 
 /// Groups of receivers that were told the same, each with what that was, in the order of
 /// the first receiver.
@@ -55,65 +55,100 @@ pub fn story(run: &Run) -> Vec<String> {
     lines
 }
 
-/// How often each faulty one told different things, and the first time.
+/// What each faulty one did: how often it told different things, and what of it was no frame.
 fn lies(run: &Run) -> Vec<String> {
     let lie = |(place, number): (usize, &u32)| {
         let sent = run.rounds.len() - 1;
         let told = run.rounds.iter().map(|round| (round, groups(run, round, place)));
         let mut apart = told.filter(|(_, groups)| groups.len() > 1);
-        let Some((first, parts)) = apart.next() else {
-            return format!("{number} told everybody the same in each round.");
+        let told = match apart.next() {
+            None => format!("{number} told everybody the same in each round"),
+            Some((first, parts)) => format!(
+                "{number} told them different things in {} of {}, first in round {}: {}",
+                1 + apart.count(),
+                times(sent, "round"),
+                first.round,
+                parts_of(&parts)
+            ),
         };
-        let parts: Vec<String> = parts.iter().take(3).map(|(to, what)| format!("{} to {}", what, numbers(to))).collect();
-        format!(
-            "{number} told them different things in {} of {sent} rounds, first in round {}: {}.",
-            1 + apart.count(),
-            first.round,
-            parts.join("; ")
-        )
+        match defects(run, place).join(", ") {
+            none if none.is_empty() => format!("{told}."),
+            some => format!("{told}. Some got {some}."),
+        }
     };
     run.scenario.faulty.iter().enumerate().map(lie).collect()
+}
+
+/// What the first few groups were told.
+fn parts_of(groups: &[(Vec<u32>, String)]) -> String {
+    let first = groups.iter().take(3);
+    let parts: Vec<String> = first.map(|(to, what)| format!("{what} to {}", numbers(to))).collect();
+    match groups.len() > 3 {
+        true => format!("{}; and so on", parts.join("; ")),
+        false => parts.join("; "),
+    }
+}
+
+/// In how many rounds somebody got nothing, or something that is no frame.
+fn defects(run: &Run, faulty: usize) -> Vec<String> {
+    let kinds = [
+        ("silent", "nothing"),
+        ("empty", "empty frames"),
+        ("cut", "cut frames"),
+        ("stale", "stale frames"),
+        ("garbled", "garbled frames"),
+    ];
+    let count = |kind: &str| {
+        let has = |round: &&Round| groups(run, round, faulty).iter().any(|(_, what)| what == kind);
+        run.rounds.iter().filter(has).count()
+    };
+    let counted = kinds.iter().map(|(kind, name)| (count(kind), name));
+    let some = counted.filter(|(count, _)| *count > 0);
+    some.map(|(count, name)| format!("{name} in {}", times(count, "round"))).collect()
 }
 
 /// When the correct ones came to hold one bit for good, and by what.
 fn unity(run: &Run) -> Vec<String> {
     let Some(round) = united(run) else {
-        return Vec::new();
+        return vec!["The correct ones never came to hold one bit.".into()];
     };
     let bit = round.correct[0].state.bit;
-    let by = match (round.round, kind(round.round)) {
-        (1, _) => format!("All correct ones brought {bit} in, and held it throughout."),
-        (_, "value") => format!("From round {} on all held {bit}: {}.", round.round, by_kings(run, round)),
-        _ => format!(
-            "From round {} on all held {bit}: a third of what each heard proposed it, and not so of the other bit.",
-            round.round
-        ),
+    let mut lines = match round.round {
+        1 => vec![format!("All correct ones brought {bit} in, and held it throughout.")],
+        now => vec![format!("From round {now} on all held {bit}: {}.", came_by(run, round))],
     };
-    let mut lines = vec![by];
     if run.scenario.is_promised() {
         lines.push(format!(
-            "With all correct ones on {bit}, two thirds of what each hears say {bit}: \
-             fewer than a third lie, and cannot turn that, as kings neither."
+            "Once all correct ones hold {bit}, two thirds of what each hears says so in every \
+             round. So each proposes {bit}, is strong for it, and follows no king against it: \
+             fewer than a third cannot turn that."
         ));
     }
     lines
 }
 
-/// What the kings did whose opinions were taken in the making of a value round.
-fn by_kings(run: &Run, round: &Round) -> String {
-    let before = phase(round.round).and_then(|phase| phase.checked_sub(1));
-    let kings = before.map_or(BTreeMap::new(), |phase| kings(run, phase));
-    let correct = |king: &u32| run.scenario.correct.contains_key(king);
-    let mut all = kings.iter();
-    match (all.next(), all.next()) {
-        (Some((king, _)), None) if correct(king) => {
-            format!("all named {king} their king, a correct one, and it told all of them the same")
+/// By what those whose bit changed in the making of a round came to hold it.
+fn came_by(run: &Run, round: &Round) -> String {
+    let before = &run.rounds[round.round as usize - 2];
+    let mut from: BTreeMap<u32, Vec<u32>> = BTreeMap::new();
+    for (was, is) in before.correct.iter().zip(&round.correct) {
+        if was.state.bit != is.state.bit {
+            from.entry(was.state.king).or_default().push(is.state.number);
         }
-        (Some((king, _)), None) => {
-            format!("all named {king} their king, and this time it left them no two ways")
-        }
-        _ => "they named different kings, and still came out alike".into(),
     }
+    if kind(round.round) == "turn" {
+        let who: Vec<u32> = from.into_values().flatten().collect();
+        return format!("{} heard a third propose it, and of the other bit less", named(&who));
+    }
+    let by = |(king, who): (u32, Vec<u32>)| {
+        let what = match run.scenario.faulty.contains(&king) {
+            true => "a faulty one",
+            false => "a correct one",
+        };
+        format!("{} took it from king {king}, {what}", named(&who))
+    };
+    let parts: Vec<String> = from.into_iter().map(by).collect();
+    parts.join("; ")
 }
 
 /// When they decided, and why then.
@@ -131,10 +166,12 @@ fn stops(run: &Run) -> Vec<String> {
         };
         match run.rule {
             Rule::Engine => format!(
-                "{who} decided in round {round}, phase {phase}, with {phase} candidates: each had been king in its turn."
+                "{who} decided in round {round}, the first of phase {phase}: after as many phases \
+                 as there are candidates, {phase}."
             ),
             Rule::Printed => format!(
-                "{who} stopped in round {round}, phase {phase}: the king to name had been named before."
+                "{who} stopped in round {round}, the first of phase {phase}: the king to name had \
+                 been named before."
             ),
         }
     };
@@ -161,7 +198,8 @@ fn refusals(run: &Run) -> Vec<String> {
     if count > 0 {
         let under: Vec<u32> = junk.into_iter().map(u32::from).collect();
         lines.push(format!(
-            "Junk from the cable was refused {count} times, under {}, and changed nothing.",
+            "Junk from the cable was refused {}, under {}, and changed nothing.",
+            times(count, "time"),
             named(&under)
         ));
     }

@@ -2,7 +2,7 @@
 
 use std::fmt::{self, Display, Formatter};
 
-use checks::packing::{has_list, kind_of, numbers_in, INIT, NONE, PROPOSE, ROSTER, TURN, VALUE};
+use checks::packing::{kind_of, numbers_in, INIT, NONE, PROPOSE, ROSTER, TURN, VALUE};
 
 use crate::scenario::{Junk, Saying, Whom};
 
@@ -27,7 +27,25 @@ fn run((first, last): (u32, u32)) -> String {
     }
 }
 
-/// The same for a sentence: `5, 7 and 9`.
+/// How many numbers such a text has.
+pub fn count(text: &str) -> usize {
+    let run = |word: &str| {
+        let (first, last) = word.split_once('-').unwrap_or((word, word));
+        let end = |text: &str| text.parse::<u32>().unwrap_or(0);
+        1 + (end(last) - end(first)) as usize
+    };
+    text.split_whitespace().map(run).sum()
+}
+
+/// So many of something that is named by one.
+pub fn times(count: usize, one: &str) -> String {
+    match count {
+        1 => format!("1 {one}"),
+        _ => format!("{count} {one}s"),
+    }
+}
+
+/// Numbers in a sentence: `5, 7 and 9`.
 pub fn named(list: &[u32]) -> String {
     let text = numbers(list);
     match text.rsplit_once(' ') {
@@ -171,9 +189,4 @@ fn choice(bit: u8) -> String {
 fn hex(bytes: &[u8]) -> String {
     let pairs: Vec<String> = bytes.iter().map(|byte| format!("{byte:02x}")).collect();
     pairs.join(" ")
-}
-
-/// Whether a round's frames carry a list.
-pub fn carries_list(round: u32) -> bool {
-    has_list(kind_of(round))
 }

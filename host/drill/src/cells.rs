@@ -1,0 +1,109 @@
+//! What stands in the cells of the table: a correct one's round, and what a faulty one told.
+
+use crate::layout::{Line, Style};
+use crate::run::{Round, Run, Seen};
+use crate::story::groups;
+use crate::words::{self, numbers, reading};
+
+/// The most groups of receivers that are told apart in a cell.
+const MOST_GROUPS: usize = 4;
+/// From how many characters on a list is shown by its count.
+const LONG: usize = 40;
+
+/// The column's head.
+pub fn head(run: &Run, number: u32) -> Vec<Line> {
+    let name = Line::of(&number.to_string(), Style::Plain);
+    match run.scenario.correct.get(&number) {
+        Some(&bit) => vec![name, Line::of(&format!("brought {bit}"), Style::of_bit(bit))],
+        None => vec![name, Line::of("FAULTY", Style::Faulty)],
+    }
+}
+
+/// What a controller did in a round.
+pub fn cell(run: &Run, place: usize, number: u32) -> Vec<Line> {
+    let round = &run.rounds[place];
+    let faulty = run.scenario.faulty.iter().position(|&one| one == number);
+    let correct = run.scenario.correct.keys().position(|&one| one == number);
+    match (faulty, correct) {
+        (Some(faulty), _) => told(run, round, faulty),
+        (_, Some(correct)) => {
+            let before = place.checked_sub(1).map(|i| &run.rounds[i].correct[correct]);
+            seen(round, &round.correct[correct], before)
+        }
+        _ => Vec::new(),
+    }
+}
+
+/// What a correct one sent, and its state.
+fn seen(round: &Round, seen: &Seen, before: Option<&Seen>) -> Vec<Line> {
+    let state = &seen.state;
+    let decided_now = state.round == round.round && !state.undecided();
+    let mut lines = match (seen.sent.is_empty(), state.undecided()) {
+        (false, _) => vec![Line::of(&short(&reading(&seen.sent, round.round)), Style::Plain)],
+        (true, true) => return vec![Line::of("stuck", Style::Bad)],
+        (true, false) if decided_now => {
+            vec![Line::of(&format!("DECIDED {}", state.decision), Style::Good)]
+        }
+        (true, false) => vec![Line::of("quiet", Style::Faint)],
+    };
+    if decided_now || state.undecided() {
+        lines.push(held(seen, before));
+    }
+    let refused = |refusal: &u8| Line::of(&format!("junk refused {refusal}"), Style::Faint);
+    lines.extend(seen.junk.iter().map(refused));
+    if let Some(refusal) = seen.refused {
+        lines.push(Line::of(&format!("tray refused {refusal}"), Style::Bad));
+    }
+    lines
+}
+
+/// Bit, king, and how many are heard and are candidates.
+fn held(seen: &Seen, before: Option<&Seen>) -> Line {
+    let state = &seen.state;
+    let bit = match before {
+        Some(before) if before.state.bit != state.bit => {
+            format!("bit {}→{}", before.state.bit, state.bit)
+        }
+        _ => format!("bit {}", state.bit),
+    };
+    let line = Line::of(&bit, Style::of_bit(state.bit));
+    let line = match state.king {
+        0 => line,
+        king => line.and(&format!("king {king}"), Style::Plain),
+    };
+    let counts = format!("{}/{}", state.heard.len(), state.candidates.len());
+    line.and(&counts, Style::Faint)
+}
+
+/// What a faulty one told whom, marked where it told them different things.
+fn told(run: &Run, round: &Round, faulty: usize) -> Vec<Line> {
+    let groups = groups(run, round, faulty);
+    let line = |(to, what): &(Vec<u32>, String)| match groups.len() {
+        1 => Line::of(&format!("all: {}", short(what)), Style::Faulty),
+        _ => Line::of("≠", Style::Bad).and(&format!("{}: {}", receivers(to), short(what)), Style::Faulty),
+    };
+    let mut lines: Vec<Line> = groups.iter().take(MOST_GROUPS).map(line).collect();
+    if groups.len() > MOST_GROUPS {
+        let more = format!("and {} more", groups.len() - MOST_GROUPS);
+        lines.push(Line::of("≠", Style::Bad).and(&more, Style::Faulty));
+    }
+    lines
+}
+
+fn receivers(to: &[u32]) -> String {
+    let text = numbers(to);
+    match text.len() > LONG {
+        true => format!("{} of them", to.len()),
+        false => text,
+    }
+}
+
+/// Words with a long list by its count.
+fn short(words: &str) -> String {
+    match words.split_once("lists ") {
+        Some((front, list)) if list.len() > LONG => {
+            format!("{front}lists {} numbers", words::count(list))
+        }
+        _ => words.into(),
+    }
+}

@@ -1,0 +1,129 @@
+//! The lane of a correct controller: its own bit and what it sent, up to its decision.
+
+use std::fmt::Write;
+
+use crate::page::markup::text;
+use crate::page::plan::{Lane, Plan, Stage, ABOVE, BOX, GUTTER, PITCH, TALL};
+use crate::page::short;
+use crate::run::{Round, Seen};
+use crate::words::{numbers, reading};
+
+/// The room for text in a box.
+const ROOM: u32 = BOX - 14;
+
+pub fn cells(plan: &Plan, lane: &Lane, stage: &Stage, place: usize) -> String {
+    let mut out = String::new();
+    for (column, round) in stage.rounds.iter().enumerate() {
+        let (seen, x) = (&round.correct[place], stage.column(column));
+        out += &match is_quiet(seen, round.round) {
+            true => quiet(seen, x),
+            false => cell(plan, lane, place, round, x),
+        };
+    }
+    out
+}
+
+/// Whether it had nothing to do with a round any more.
+pub fn is_quiet(seen: &Seen, round: u32) -> bool {
+    seen.state.round < round
+}
+
+/// A thin line; a broken one if it is stuck.
+fn quiet(seen: &Seen, x: u32) -> String {
+    let class = if seen.state.undecided() { "stuck" } else { "quiet" };
+    let (left, middle) = (x - GUTTER, ABOVE + TALL / 2);
+    format!(r#"<path class="{class}" d="M{left} {middle}h{PITCH}"/>"#)
+}
+
+fn cell(plan: &Plan, lane: &Lane, place: usize, round: &Round, x: u32) -> String {
+    let seen = &round.correct[place];
+    let before = bit_before(plan, place, round.round);
+    let (bit, decided) = (seen.state.bit, !seen.state.undecided());
+    // The corners say the bit as well: 0 is round, 1 is not.
+    let corner = if bit == 0 { 13 } else { 3 };
+    let mut out = match decided {
+        true => format!(
+            r#"<g class="b{bit} end" data-decided="{bit}" data-round="{}""#,
+            round.round
+        ),
+        false => format!(r#"<g class="b{bit}""#),
+    };
+    let _ = write!(out, r#" transform="translate({x})">"#);
+    out += &text("title", &spoken(lane.number, seen, round.round, before));
+    let _ = write!(
+        out,
+        r#"<rect y="{ABOVE}" width="{BOX}" height="{TALL}" rx="{corner}"/>"#
+    );
+    out += &match decided {
+        true => format!(
+            "<use href=\"#tick\" x=\"8\" y=\"11\"/>{}",
+            text(r#"text x="24" y="22""#, &format!("decided {bit}"))
+        ),
+        false => text(
+            r#"text x="8" y="22""#,
+            &short::words(&sent(seen, round.round), 12, ROOM),
+        ),
+    };
+    out += &match before {
+        Some(before) => text(r#"text class="m turned" x="8" y="38""#, &format!("bit {before}→{bit}")),
+        None => text(r#"text class="m" x="8" y="38""#, &format!("bit {bit}")),
+    };
+    out + &tag(seen) + "</g>"
+}
+
+/// What it refused, below the box.
+fn tag(seen: &Seen) -> String {
+    let words = match (seen.refused, seen.junk.is_empty()) {
+        (Some(refusal), _) => format!("stuck, refused {refusal}"),
+        (None, false) => short::fitting(
+            [format!("refused {}", listed(&seen.junk)), format!("refused {} times", seen.junk.len())],
+            11,
+            BOX,
+        ),
+        (None, true) => return String::new(),
+    };
+    text(r#"text class="m no" x="2" y="59""#, &words)
+}
+
+/// Its bit in the round before, if that was another one.
+pub fn bit_before(plan: &Plan, place: usize, round: u32) -> Option<u8> {
+    let now = plan.run.rounds[round as usize - 1].correct[place].state.bit;
+    let before = plan.run.rounds.get((round as usize).checked_sub(2)?)?;
+    let before = before.correct[place].state.bit;
+    (before != now).then_some(before)
+}
+
+/// What it sent in a round, in words; nothing from the decision on.
+pub fn sent(seen: &Seen, round: u32) -> String {
+    match seen.sent.is_empty() {
+        true => "nothing".into(),
+        false => reading(&seen.sent, round),
+    }
+}
+
+/// Refusals, with a blank between them.
+pub fn listed(refusals: &[u8]) -> String {
+    let wide: Vec<u32> = refusals.iter().copied().map(u32::from).collect();
+    numbers(&wide)
+}
+
+fn spoken(number: u32, seen: &Seen, round: u32, before: Option<u8>) -> String {
+    let state = &seen.state;
+    let mut out = match state.undecided() {
+        true => format!("{number} in round {round} sends {}; bit {}", sent(seen, round), state.bit),
+        false => format!("{number} in round {round} decides {}", state.decision),
+    };
+    if let Some(before) = before {
+        let _ = write!(out, ", before {before}");
+    }
+    if state.king != 0 {
+        let _ = write!(out, "; king {}", state.king);
+    }
+    if !seen.junk.is_empty() {
+        let _ = write!(out, "; junk refused under {}", listed(&seen.junk));
+    }
+    if let Some(refusal) = seen.refused {
+        let _ = write!(out, "; refuses its tray under {refusal} and is stuck");
+    }
+    out
+}

@@ -1,0 +1,145 @@
+//! The table for a terminal: a row for each round, a column for each controller.
+
+use crate::cells::{cell, head};
+use crate::controller::Rule;
+use crate::layout::{painted, wrapped, Line, Style};
+use crate::run::Run;
+use crate::story::{kings, story};
+use crate::verdict::{verdict, warning};
+use crate::words::{self, named, numbers};
+
+/// The column of the rounds, the gap between columns, and the least and most of a column.
+const ROUNDS: usize = 8;
+const GAP: usize = 2;
+const LEAST: usize = 12;
+const MOST: usize = 28;
+
+/// What is said of the printed rule.
+pub const PRINTED: &str = "The correct ones stop by the published method's own rule, when a king is \
+                           named twice. They run on the reference, not on the engine.";
+
+const LEGEND: &str = "A cell has what was sent, then the own bit, the king, and how many are \
+                      heard/candidates. ≠ is where a faulty one told them different things.";
+
+/// All that the drill prints of a run.
+pub fn shown(run: &Run, width: usize, colour: bool) -> String {
+    let mut out = before(run, width, colour);
+    let per_block = ((width.saturating_sub(ROUNDS)) / (LEAST + GAP)).max(1);
+    let all: Vec<u32> = run.scenario.numbers().into_iter().collect();
+    for block in all.chunks(per_block) {
+        out.push('\n');
+        out.push_str(&table(run, block, width, colour));
+    }
+    out.push('\n');
+    out.push_str(&ending(run, width, colour));
+    out
+}
+
+/// What stands before the table.
+fn before(run: &Run, width: usize, colour: bool) -> String {
+    let mut lines: Vec<Line> = Vec::new();
+    for remark in &run.scenario.heading {
+        lines.push(Line::of(remark, Style::Plain));
+    }
+    if !run.scenario.heading.is_empty() {
+        lines.push(Line::default());
+    }
+    lines.push(Line::of(&members(run), Style::Plain));
+    if run.rule == Rule::Printed {
+        lines.push(Line::of(PRINTED, Style::Plain));
+    }
+    lines.extend(warning(run).map(|warning| Line::of(&warning, Style::Bad)));
+    lines.push(Line::of(LEGEND, Style::Faint));
+    paragraphs(&lines, width, colour)
+}
+
+/// Lines as wide as the terminal.
+fn paragraphs(lines: &[Line], width: usize, colour: bool) -> String {
+    let wrapped = wrapped(lines, width, colour);
+    wrapped.iter().map(|line| format!("{}\n", line.trim_end())).collect()
+}
+
+/// Who is on the line.
+pub fn members(run: &Run) -> String {
+    let brought = |bit: u8| {
+        let such = run.scenario.correct.iter().filter(|(_, &input)| input == bit);
+        let numbers: Vec<u32> = such.map(|(&number, _)| number).collect();
+        (!numbers.is_empty()).then(|| format!("{} brought {bit} in", named(&numbers)))
+    };
+    let parts: Vec<String> = [1, 0].into_iter().filter_map(brought).collect();
+    let faulty: Vec<u32> = run.scenario.faulty.iter().copied().collect();
+    let faulty = match faulty.len() {
+        0 => "nobody is faulty".into(),
+        1 => format!("{} is faulty", faulty[0]),
+        _ => format!("{} are faulty", named(&faulty)),
+    };
+    format!("A line of {}: {}; {faulty}.", run.scenario.size(), parts.join(", "))
+}
+
+/// Some columns of the table.
+fn table(run: &Run, block: &[u32], width: usize, colour: bool) -> String {
+    let column = (width.saturating_sub(ROUNDS) / block.len()).saturating_sub(GAP).clamp(LEAST, MOST);
+    let row = |first: Vec<Line>, cells: Vec<Vec<Line>>| {
+        let first = wrapped(&first, ROUNDS, colour);
+        let cells = cells.iter().map(|cell| wrapped(cell, column, colour)).collect();
+        joined(first, cells, column)
+    };
+    let heads = block.iter().map(|&number| head(run, number)).collect();
+    let mut out = row(vec![Line::of("round", Style::Faint)], heads);
+    for (place, round) in run.rounds.iter().enumerate() {
+        if round.round % 3 == 0 {
+            let head = Line::of(&phase_head(run, round.round / 3 - 1), Style::Faint);
+            out.push_str(&paragraphs(&[head], width, colour));
+        }
+        let first = vec![
+            Line::of(&round.round.to_string(), Style::Plain),
+            Line::of(words::kind(round.round), Style::Faint),
+        ];
+        let cells = block.iter().map(|&number| cell(run, place, number)).collect();
+        out.push_str(&row(first, cells));
+    }
+    out
+}
+
+/// A phase with its kings and those who name them.
+fn phase_head(run: &Run, phase: u32) -> String {
+    let kings = kings(run, phase);
+    let king = |(king, by): (&u32, &Vec<u32>)| {
+        let faulty = if run.scenario.faulty.contains(king) { ", FAULTY" } else { "" };
+        match kings.len() {
+            1 => format!("king {king}{faulty}"),
+            _ => format!("king {king}{faulty}, named by {}", numbers(by)),
+        }
+    };
+    let named: Vec<String> = kings.iter().map(king).collect();
+    match named.is_empty() {
+        true => format!("-- phase {phase} --"),
+        false => format!("-- phase {phase}: {} --", named.join("; ")),
+    }
+}
+
+/// Cells side by side, without blanks at the ends of lines.
+fn joined(first: Vec<String>, cells: Vec<Vec<String>>, column: usize) -> String {
+    let height = cells.iter().map(Vec::len).max().unwrap_or(0).max(first.len());
+    let blank = " ".repeat(column);
+    let mut out = String::new();
+    for i in 0..height {
+        let mut line = first.get(i).cloned().unwrap_or(" ".repeat(ROUNDS));
+        for cell in &cells {
+            line.push_str(cell.get(i).unwrap_or(&blank));
+            line.push_str(&" ".repeat(GAP));
+        }
+        out.push_str(line.trim_end());
+        out.push('\n');
+    }
+    out
+}
+
+/// The verdict in a line, then why.
+fn ending(run: &Run, width: usize, colour: bool) -> String {
+    let verdict = verdict(run);
+    let style = if verdict.agreed { Style::Good } else { Style::Bad };
+    let why = story(run).into_iter().map(|line| Line::of(&format!("- {line}"), Style::Plain));
+    let why: Vec<Line> = why.collect();
+    painted(&verdict.text, style, colour) + "\n" + &paragraphs(&why, width, colour)
+}

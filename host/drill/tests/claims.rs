@@ -1,0 +1,172 @@
+//! Random scenarios on the compiled engine, held against document 01's claims.
+
+use checks::random::Random;
+use drill::controller::Rule;
+use drill::liar::plan;
+use drill::run::{run, Run};
+use drill::scenario::{Deed, Junk, Order, Saying, Scenario, Whom};
+use drill::verdict::verdict;
+use drill::worst::worst;
+
+/// A line of so many, so many of them faulty, with liars that a seed picks.
+fn random_scenario(seed: u64, size: usize, faulty: usize) -> Scenario {
+    let mut random = Random::new(seed);
+    let pool: Vec<u32> = match random.percent(50) {
+        true => (1..=100).collect(),
+        false => (0..100).map(|i| 1 + i * 42_949_672).collect(),
+    };
+    let mut numbers = random.some(&pool, size);
+    if random.percent(70) {
+        random.shuffle(&mut numbers);
+    }
+    let correct = numbers.split_off(faulty);
+    let mut line = Scenario {
+        faulty: numbers.into_iter().collect(),
+        correct: correct.into_iter().map(|number| (number, random.bit())).collect(),
+        ..Scenario::default()
+    };
+    line.orders = match random.percent(60) {
+        true => plan(seed, &line),
+        false => vec![anything(seed)],
+    };
+    line
+}
+
+/// Every faulty one tells each something of its own in every round.
+fn anything(seed: u64) -> Order {
+    Order {
+        line: 1,
+        rounds: 1..=194,
+        seed,
+        deed: Deed::Tells {
+            who: None,
+            whom: Whom::Each,
+            what: vec![Saying::Anything],
+        },
+    }
+}
+
+/// Document 01's claims, of the states alone: all have decided by round 3 + 3n, alike, a
+/// bit that one of them brought in; and who has decided stays so.
+fn claims_hold(run: &Run) -> bool {
+    let last = &run.rounds.last().expect("a round").correct;
+    let decision = last[0].state.decision;
+    let limit = 3 + 3 * (run.scenario.correct.len() + run.scenario.faulty.len()) as u32;
+    let decided = last.iter().all(|seen| seen.state.decision == decision && seen.state.round <= limit);
+    let brought = run.scenario.correct.values().any(|&bit| bit == decision);
+    decided && brought && decision < 2
+}
+
+/// Decisions never change, and nobody sends after its own.
+fn decisions_stay(run: &Run) -> bool {
+    (0..run.scenario.correct.len()).all(|place| {
+        let states = run.rounds.iter().map(|round| &round.correct[place]);
+        let decided = states.skip_while(|seen| seen.state.undecided());
+        let mut kept = decided.map(|seen| (seen.state.decision, seen.state.round, seen.sent.len()));
+        let first = kept.next();
+        kept.all(|later| Some(later) == first) && first.is_none_or(|(_, _, sent)| sent == 0)
+    })
+}
+
+#[test]
+fn a_thousand_lines_agree() {
+    let mut divided = 0;
+    for seed in 0..1000 {
+        let size = match seed % 10 {
+            0 => 1 + seed as usize / 10 % 64,
+            _ => 1 + seed as usize % 13,
+        };
+        let most = (size - 1) / 3;
+        let faulty = if seed % 4 == 0 { most / 2 } else { most };
+        let scenario = random_scenario(seed, size, faulty);
+        let run = run(&scenario, Rule::Engine).expect("a run");
+        let verdict = verdict(&run);
+        assert!(scenario.is_promised());
+        assert!(verdict.agreed && claims_hold(&run), "seed {seed}: {}", verdict.text);
+        assert!(decisions_stay(&run), "seed {seed}");
+        let after = drill::story::united(&run).expect("one bit at the end");
+        divided += usize::from(after.round > 6);
+    }
+    println!("1000 lines agree; in {divided} of them bits differed past phase 0");
+    assert!(divided > 100);
+}
+
+/// With a third or more faulty the verdict is what the states say, and some lines break.
+#[test]
+fn where_nothing_is_promised_some_break() {
+    let mut broken = 0;
+    for seed in 0..500 {
+        let size = 3 + seed as usize % 8;
+        let faulty = size.div_ceil(3) + seed as usize % 2;
+        let scenario = random_scenario(seed, size, faulty);
+        let run = run(&scenario, Rule::Engine).expect("a run");
+        let verdict = verdict(&run);
+        assert!(!scenario.is_promised());
+        assert_eq!(verdict.agreed, claims_hold(&run), "seed {seed}: {}", verdict.text);
+        assert_eq!(verdict.text.starts_with("BROKEN"), !verdict.agreed);
+        assert!(decisions_stay(&run), "seed {seed}");
+        broken += usize::from(!verdict.agreed);
+    }
+    println!("{broken} of 500 lines with a third or more faulty break");
+    assert!((1..500).contains(&broken));
+}
+
+/// Junk from the cable is refused and changes nothing else.
+#[test]
+fn junk_changes_nothing() {
+    for seed in 0..200 {
+        let size = 1 + seed as usize % 9;
+        let quiet = random_scenario(seed, size, (size - 1) / 3);
+        let mut loud = quiet.clone();
+        for junk in [Junk::Noise, Junk::Cut, Junk::Old, Junk::Forged, Junk::Crowd, Junk::Bytes(vec![0; 7])] {
+            loud.orders.push(Order {
+                line: 1,
+                rounds: 1..=194,
+                seed,
+                deed: Deed::Junk { whom: Whom::All, junk },
+            });
+        }
+        let (quiet, loud) = (run(&quiet, Rule::Engine).expect("a run"), run(&loud, Rule::Engine).expect("a run"));
+        for (a, b) in quiet.rounds.iter().zip(&loud.rounds) {
+            for (a, b) in a.correct.iter().zip(&b.correct) {
+                assert_eq!((&a.sent, a.state.image()), (&b.sent, b.state.image()), "seed {seed}");
+            }
+        }
+        let first = &loud.rounds[0].correct[0].junk;
+        assert_eq!(first, &[4, 4, 5, 6, 7, 4], "seed {seed}");
+        let last = &loud.rounds.last().expect("a round").correct;
+        assert!(last.iter().all(|seen| seen.junk.is_empty()));
+        assert_eq!(quiet.rounds.len(), loud.rounds.len());
+    }
+}
+
+/// The published rule stops nobody later, and breaks lines that the engine holds.
+#[test]
+fn the_printed_rule_breaks_lines() {
+    let mut broken = 0;
+    for seed in 0..500 {
+        let scenario = random_scenario(seed, 4 + seed as usize % 4, 1);
+        let printed = run(&scenario, Rule::Printed).expect("a run");
+        broken += usize::from(!verdict(&printed).agreed);
+    }
+    println!("the printed rule breaks {broken} of 500 lines");
+    assert!((1..500).contains(&broken));
+}
+
+/// The worst of more liars is no better, and where too many are faulty it breaks.
+#[test]
+fn the_worst_is_kept() {
+    let line = drill::parse::parse("line 4=1 6=0 8=1 10=0\nfaulty 2\n").expect("a line");
+    let last = |tries: u64| {
+        let kept = worst(&line, tries, Rule::Engine);
+        let run = run(&kept, Rule::Engine).expect("a run");
+        assert!(verdict(&run).agreed);
+        (run.rounds.len(), drill::story::united(&run).map(|round| round.round))
+    };
+    assert!(last(1) <= last(50) && last(50) <= last(300));
+    assert_eq!(last(300).0, 18);
+    let three = drill::parse::parse("line 5=0 7=1\nfaulty 3\n").expect("a line");
+    let kept = worst(&three, 100, Rule::Engine);
+    assert!(!verdict(&run(&kept, Rule::Engine).expect("a run")).agreed);
+    assert!(kept.heading[0].contains("BROKEN"), "{:?}", kept.heading);
+}
