@@ -47,7 +47,11 @@ impl Arguments {
         Ok(arguments)
     }
 
-    fn take<'a>(&mut self, word: &str, rest: &mut impl Iterator<Item = &'a String>) -> Result<(), String> {
+    fn take<'a>(
+        &mut self,
+        word: &str,
+        rest: &mut impl Iterator<Item = &'a String>,
+    ) -> Result<(), String> {
         let mut value = || rest.next().ok_or(wrong(&format!("{word} lacks its value")));
         match word {
             "--help" | "-h" => self.help = true,
@@ -59,7 +63,9 @@ impl Arguments {
             "--worst" => self.worst = Some(number(word, value()?, 1)?),
             "--width" => self.width = Some(number(word, value()?, LEAST_WIDTH as u64)? as usize),
             _ if word.starts_with("--") => return Err(wrong(&format!("{word} is unknown"))),
-            _ if self.scenario.is_some() => return Err(wrong(&format!("{word}: one scenario at a time"))),
+            _ if self.scenario.is_some() => {
+                return Err(wrong(&format!("{word}: one scenario at a time")))
+            }
             _ => self.scenario = Some(word.into()),
         }
         Ok(())
@@ -67,8 +73,15 @@ impl Arguments {
 }
 
 fn number(word: &str, value: &str, least: u64) -> Result<u64, String> {
-    let number = value.parse().ok().filter(|&number| number >= least && number <= 1_000_000);
-    number.ok_or_else(|| wrong(&format!("{word} {value}: a number from {least} to 1000000 is wanted")))
+    let number = value
+        .parse()
+        .ok()
+        .filter(|&number| number >= least && number <= 1_000_000);
+    number.ok_or_else(|| {
+        wrong(&format!(
+            "{word} {value}: a number from {least} to 1000000 is wanted"
+        ))
+    })
 }
 
 fn wrong(what: &str) -> String {

@@ -11,8 +11,14 @@ pub const ALL: [(&str, &str); 11] = [
     ("memory-cell", include_str!("../scenarios/memory-cell.txt")),
     ("two-frames", include_str!("../scenarios/two-frames.txt")),
     ("flood", include_str!("../scenarios/flood.txt")),
-    ("spare-section", include_str!("../scenarios/spare-section.txt")),
-    ("line-of-three", include_str!("../scenarios/line-of-three.txt")),
+    (
+        "spare-section",
+        include_str!("../scenarios/spare-section.txt"),
+    ),
+    (
+        "line-of-three",
+        include_str!("../scenarios/line-of-three.txt"),
+    ),
 ];
 
 /// The one that is run where none is named.
@@ -20,14 +26,19 @@ pub const FIRST: &str = "incident";
 
 /// The text of one.
 pub fn text(name: &str) -> Option<&'static str> {
-    ALL.iter().find(|(known, _)| *known == name).map(|(_, text)| *text)
+    ALL.iter()
+        .find(|(known, _)| *known == name)
+        .map(|(_, text)| *text)
 }
 
 /// A line for each: its name and its title.
 pub fn listing() -> String {
     let title = |text: &'static str| text.lines().next().unwrap_or_default();
     let line = |(name, text): &(&str, &'static str)| {
-        format!("  {name:<15}{}\n", title(text).trim_start_matches(['#', ' ']))
+        format!(
+            "  {name:<15}{}\n",
+            title(text).trim_start_matches(['#', ' '])
+        )
     };
     ALL.iter().map(line).collect()
 }

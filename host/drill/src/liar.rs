@@ -57,7 +57,11 @@ fn saying_of(round: u32, bit: u8, list: Vec<u32>) -> Saying {
 /// Some of the line's numbers, faulty ones above all, and some that are made up.
 fn some_numbers(random: &mut Random, scenario: &Scenario) -> Vec<u32> {
     let (faulty, correct) = (&scenario.faulty, scenario.correct.keys());
-    let mut list: Vec<u32> = faulty.iter().copied().filter(|_| random.percent(60)).collect();
+    let mut list: Vec<u32> = faulty
+        .iter()
+        .copied()
+        .filter(|_| random.percent(60))
+        .collect();
     list.extend(correct.filter(|_| random.percent(20)));
     list.extend(MADE_UP.iter().filter(|_| random.percent(10)));
     list.sort_unstable();
@@ -117,14 +121,24 @@ impl Manner {
     }
 
     /// What one tells each of the two sides in a round.
-    fn deeds(&self, random: &mut Random, scenario: &Scenario, round: u32, faulty: u32) -> Vec<Deed> {
+    fn deeds(
+        &self,
+        random: &mut Random,
+        scenario: &Scenario,
+        round: u32,
+        faulty: u32,
+    ) -> Vec<Deed> {
         let side = match random.percent(self.restless) {
             true => half(random, scenario),
             false => self.side.clone(),
         };
-        let (ones, zeros): (Vec<u32>, Vec<u32>) =
-            scenario.correct.keys().partition(|number| side.contains(number));
-        let sides = [(1, ones), (0, zeros)].into_iter().filter(|(_, to)| !to.is_empty());
+        let (ones, zeros): (Vec<u32>, Vec<u32>) = scenario
+            .correct
+            .keys()
+            .partition(|number| side.contains(number));
+        let sides = [(1, ones), (0, zeros)]
+            .into_iter()
+            .filter(|(_, to)| !to.is_empty());
         let deed = |(bit, to): (u8, Vec<u32>)| Deed::Tells {
             who: Some(faulty),
             whom: Whom::These(to.into_iter().collect()),

@@ -16,20 +16,17 @@
 
 pub mod arguments;
 pub mod bundled;
-pub mod cells;
 pub mod controller;
 pub mod junk;
-pub mod layout;
 pub mod liar;
 pub mod mistake;
+pub mod page;
 pub mod parse;
 pub mod run;
-pub mod sayings;
 pub mod scenario;
 pub mod story;
 pub mod table;
 pub mod telling;
-pub mod tokens;
 pub mod verdict;
 pub mod words;
 pub mod worst;

@@ -11,7 +11,7 @@ use checks::random::Random;
 
 use crate::controller::{Controller, Rule};
 use crate::mistake::Mistake;
-use crate::scenario::{Order, Saying, Scenario, Whom, Deed};
+use crate::scenario::{Deed, Order, Saying, Scenario, Whom};
 use crate::telling::Telling;
 use crate::{junk, liar};
 
@@ -86,8 +86,12 @@ impl<'a> Line<'a> {
         Line {
             scenario,
             round: 1,
-            correct: correct.map(|(&n, &bit)| Controller::start(rule, n, bit)).collect(),
-            behind: faulty.map(|n| Controller::start(rule, *n, behind(n))).collect(),
+            correct: correct
+                .map(|(&n, &bit)| Controller::start(rule, n, bit))
+                .collect(),
+            behind: faulty
+                .map(|n| Controller::start(rule, *n, behind(n)))
+                .collect(),
         }
     }
 
@@ -216,8 +220,13 @@ fn no_junk(order: &Order, number: u32, round: u32) -> Mistake {
 /// For whom chance is drawn: one receiver, or all whom the order names.
 fn drawn_for(order: &Order, to: u32) -> u32 {
     match &order.deed {
-        Deed::Tells { whom: Whom::Each, .. } => to,
-        Deed::Tells { whom: Whom::These(numbers), .. } => *numbers.first().unwrap_or(&to),
+        Deed::Tells {
+            whom: Whom::Each, ..
+        } => to,
+        Deed::Tells {
+            whom: Whom::These(numbers),
+            ..
+        } => *numbers.first().unwrap_or(&to),
         _ => 0,
     }
 }

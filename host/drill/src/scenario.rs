@@ -181,11 +181,13 @@ impl Scenario {
 
     /// The junk that one gets in a round, in the order of the text.
     pub fn junk(&self, round: u32, to: u32) -> impl Iterator<Item = (&Order, &Junk)> {
-        self.orders.iter().filter_map(move |order| match &order.deed {
-            Deed::Junk { whom, junk } if order.rounds.contains(&round) && whom.has(to) => {
-                Some((order, junk))
-            }
-            _ => None,
-        })
+        self.orders
+            .iter()
+            .filter_map(move |order| match &order.deed {
+                Deed::Junk { whom, junk } if order.rounds.contains(&round) && whom.has(to) => {
+                    Some((order, junk))
+                }
+                _ => None,
+            })
     }
 }

@@ -31,7 +31,10 @@ pub fn kings(run: &Run, phase: u32) -> BTreeMap<u32, Vec<u32>> {
     };
     let now = |seen: &&crate::run::Seen| seen.state.round == round.round && seen.state.king != 0;
     for seen in round.correct.iter().filter(now) {
-        kings.entry(seen.state.king).or_default().push(seen.state.number);
+        kings
+            .entry(seen.state.king)
+            .or_default()
+            .push(seen.state.number);
     }
     kings
 }
@@ -59,7 +62,10 @@ pub fn story(run: &Run) -> Vec<String> {
 fn lies(run: &Run) -> Vec<String> {
     let lie = |(place, number): (usize, &u32)| {
         let sent = run.rounds.len() - 1;
-        let told = run.rounds.iter().map(|round| (round, groups(run, round, place)));
+        let told = run
+            .rounds
+            .iter()
+            .map(|round| (round, groups(run, round, place)));
         let mut apart = told.filter(|(_, groups)| groups.len() > 1);
         let told = match apart.next() {
             None => format!("{number} told everybody the same in each round"),
@@ -82,7 +88,9 @@ fn lies(run: &Run) -> Vec<String> {
 /// What the first few groups were told.
 fn parts_of(groups: &[(Vec<u32>, String)]) -> String {
     let first = groups.iter().take(3);
-    let parts: Vec<String> = first.map(|(to, what)| format!("{what} to {}", numbers(to))).collect();
+    let parts: Vec<String> = first
+        .map(|(to, what)| format!("{what} to {}", numbers(to)))
+        .collect();
     match groups.len() > 3 {
         true => format!("{}; and so on", parts.join("; ")),
         false => parts.join("; "),
@@ -99,12 +107,17 @@ fn defects(run: &Run, faulty: usize) -> Vec<String> {
         ("garbled", "garbled frames"),
     ];
     let count = |kind: &str| {
-        let has = |round: &&Round| groups(run, round, faulty).iter().any(|(_, what)| what == kind);
+        let has = |round: &&Round| {
+            groups(run, round, faulty)
+                .iter()
+                .any(|(_, what)| what == kind)
+        };
         run.rounds.iter().filter(has).count()
     };
     let counted = kinds.iter().map(|(kind, name)| (count(kind), name));
     let some = counted.filter(|(count, _)| *count > 0);
-    some.map(|(count, name)| format!("{name} in {}", times(count, "round"))).collect()
+    some.map(|(count, name)| format!("{name} in {}", times(count, "round")))
+        .collect()
 }
 
 /// When the correct ones came to hold one bit for good, and by what.
@@ -114,8 +127,13 @@ fn unity(run: &Run) -> Vec<String> {
     };
     let bit = round.correct[0].state.bit;
     let mut lines = match round.round {
-        1 => vec![format!("All correct ones brought {bit} in, and held it throughout.")],
-        now => vec![format!("From round {now} on all held {bit}: {}.", came_by(run, round))],
+        1 => vec![format!(
+            "All correct ones brought {bit} in, and held it throughout."
+        )],
+        now => vec![format!(
+            "From round {now} on all held {bit}: {}.",
+            came_by(run, round)
+        )],
     };
     if run.scenario.is_promised() {
         lines.push(format!(
@@ -133,12 +151,17 @@ fn came_by(run: &Run, round: &Round) -> String {
     let mut from: BTreeMap<u32, Vec<u32>> = BTreeMap::new();
     for (was, is) in before.correct.iter().zip(&round.correct) {
         if was.state.bit != is.state.bit {
-            from.entry(was.state.king).or_default().push(is.state.number);
+            from.entry(was.state.king)
+                .or_default()
+                .push(is.state.number);
         }
     }
     if kind(round.round) == "turn" {
         let who: Vec<u32> = from.into_values().flatten().collect();
-        return format!("{} heard a third propose it, and of the other bit less", named(&who));
+        return format!(
+            "{} heard a third propose it, and of the other bit less",
+            named(&who)
+        );
     }
     let by = |(king, who): (u32, Vec<u32>)| {
         let what = match run.scenario.faulty.contains(&king) {
@@ -211,15 +234,31 @@ fn late(run: &Run) -> Vec<String> {
     let mut heard: BTreeMap<u32, BTreeMap<u32, Vec<u32>>> = BTreeMap::new();
     let last = run.rounds.last().expect("a run has a round");
     for seen in &last.correct {
-        for (number, round) in seen.state.record().into_iter().filter(|(_, round)| *round > 0) {
-            heard.entry(number).or_default().entry(round).or_default().push(seen.state.number);
+        for (number, round) in seen
+            .state
+            .record()
+            .into_iter()
+            .filter(|(_, round)| *round > 0)
+        {
+            heard
+                .entry(number)
+                .or_default()
+                .entry(round)
+                .or_default()
+                .push(seen.state.number);
         }
     }
     let is_late = |rounds: &BTreeMap<u32, Vec<u32>>| rounds.keys().any(|&round| round > 1);
     let line = |(number, rounds): (u32, BTreeMap<u32, Vec<u32>>)| {
-        let parts: Vec<String> =
-            rounds.iter().map(|(round, who)| format!("in round {round} by {}", named(who))).collect();
+        let parts: Vec<String> = rounds
+            .iter()
+            .map(|(round, who)| format!("in round {round} by {}", named(who)))
+            .collect();
         format!("{number} was first heard {}.", parts.join(", "))
     };
-    heard.into_iter().filter(|(_, rounds)| is_late(rounds)).map(line).collect()
+    heard
+        .into_iter()
+        .filter(|(_, rounds)| is_late(rounds))
+        .map(line)
+        .collect()
 }

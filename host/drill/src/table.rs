@@ -1,12 +1,15 @@
 //! The table for a terminal: a row for each round, a column for each controller.
 
-use crate::cells::{cell, head};
+mod cells;
+mod layout;
+
 use crate::controller::Rule;
-use crate::layout::{painted, wrapped, Line, Style};
 use crate::run::Run;
 use crate::story::{kings, story};
 use crate::verdict::{verdict, warning};
 use crate::words::{self, named, numbers};
+use cells::{cell, head};
+use layout::{painted, wrapped, Line, Style};
 
 /// The column of the rounds, the gap between columns, and the least and most of a column.
 const ROUNDS: usize = 8;
@@ -15,7 +18,8 @@ const LEAST: usize = 12;
 const MOST: usize = 28;
 
 /// What is said of the printed rule.
-pub const PRINTED: &str = "The correct ones stop by the published method's own rule, when a king is \
+pub const PRINTED: &str =
+    "The correct ones stop by the published method's own rule, when a king is \
                            named twice. They run on the reference, not on the engine.";
 
 const LEGEND: &str = "A cell has what was sent, then the own bit, the king, and how many are \
@@ -56,13 +60,20 @@ fn before(run: &Run, width: usize, colour: bool) -> String {
 /// Lines as wide as the terminal.
 fn paragraphs(lines: &[Line], width: usize, colour: bool) -> String {
     let wrapped = wrapped(lines, width, colour);
-    wrapped.iter().map(|line| format!("{}\n", line.trim_end())).collect()
+    wrapped
+        .iter()
+        .map(|line| format!("{}\n", line.trim_end()))
+        .collect()
 }
 
 /// Who is on the line.
 pub fn members(run: &Run) -> String {
     let brought = |bit: u8| {
-        let such = run.scenario.correct.iter().filter(|(_, &input)| input == bit);
+        let such = run
+            .scenario
+            .correct
+            .iter()
+            .filter(|(_, &input)| input == bit);
         let numbers: Vec<u32> = such.map(|(&number, _)| number).collect();
         (!numbers.is_empty()).then(|| format!("{} brought {bit} in", named(&numbers)))
     };
@@ -73,15 +84,24 @@ pub fn members(run: &Run) -> String {
         1 => format!("{} is faulty", faulty[0]),
         _ => format!("{} are faulty", named(&faulty)),
     };
-    format!("A line of {}: {}; {faulty}.", run.scenario.size(), parts.join(", "))
+    format!(
+        "A line of {}: {}; {faulty}.",
+        run.scenario.size(),
+        parts.join(", ")
+    )
 }
 
 /// Some columns of the table.
 fn table(run: &Run, block: &[u32], width: usize, colour: bool) -> String {
-    let column = (width.saturating_sub(ROUNDS) / block.len()).saturating_sub(GAP).clamp(LEAST, MOST);
+    let column = (width.saturating_sub(ROUNDS) / block.len())
+        .saturating_sub(GAP)
+        .clamp(LEAST, MOST);
     let row = |first: Vec<Line>, cells: Vec<Vec<Line>>| {
         let first = wrapped(&first, ROUNDS, colour);
-        let cells = cells.iter().map(|cell| wrapped(cell, column, colour)).collect();
+        let cells = cells
+            .iter()
+            .map(|cell| wrapped(cell, column, colour))
+            .collect();
         joined(first, cells, column)
     };
     let heads = block.iter().map(|&number| head(run, number)).collect();
@@ -95,7 +115,10 @@ fn table(run: &Run, block: &[u32], width: usize, colour: bool) -> String {
             Line::of(&round.round.to_string(), Style::Plain),
             Line::of(words::kind(round.round), Style::Faint),
         ];
-        let cells = block.iter().map(|&number| cell(run, place, number)).collect();
+        let cells = block
+            .iter()
+            .map(|&number| cell(run, place, number))
+            .collect();
         out.push_str(&row(first, cells));
     }
     out
@@ -105,7 +128,11 @@ fn table(run: &Run, block: &[u32], width: usize, colour: bool) -> String {
 fn phase_head(run: &Run, phase: u32) -> String {
     let kings = kings(run, phase);
     let king = |(king, by): (&u32, &Vec<u32>)| {
-        let faulty = if run.scenario.faulty.contains(king) { ", FAULTY" } else { "" };
+        let faulty = if run.scenario.faulty.contains(king) {
+            ", FAULTY"
+        } else {
+            ""
+        };
         match kings.len() {
             1 => format!("king {king}{faulty}"),
             _ => format!("king {king}{faulty}, named by {}", numbers(by)),
@@ -120,7 +147,12 @@ fn phase_head(run: &Run, phase: u32) -> String {
 
 /// Cells side by side, without blanks at the ends of lines.
 fn joined(first: Vec<String>, cells: Vec<Vec<String>>, column: usize) -> String {
-    let height = cells.iter().map(Vec::len).max().unwrap_or(0).max(first.len());
+    let height = cells
+        .iter()
+        .map(Vec::len)
+        .max()
+        .unwrap_or(0)
+        .max(first.len());
     let blank = " ".repeat(column);
     let mut out = String::new();
     for i in 0..height {
@@ -138,8 +170,14 @@ fn joined(first: Vec<String>, cells: Vec<Vec<String>>, column: usize) -> String 
 /// The verdict in a line, then why.
 fn ending(run: &Run, width: usize, colour: bool) -> String {
     let verdict = verdict(run);
-    let style = if verdict.agreed { Style::Good } else { Style::Bad };
-    let why = story(run).into_iter().map(|line| Line::of(&format!("- {line}"), Style::Plain));
+    let style = if verdict.agreed {
+        Style::Good
+    } else {
+        Style::Bad
+    };
+    let why = story(run)
+        .into_iter()
+        .map(|line| Line::of(&format!("- {line}"), Style::Plain));
     let why: Vec<Line> = why.collect();
     painted(&verdict.text, style, colour) + "\n" + &paragraphs(&why, width, colour)
 }

@@ -61,7 +61,11 @@ impl Telling<'_> {
     /// The frame of the controller behind the card; where it is quiet, one that says as
     /// little as can be.
     fn base(&self) -> Vec<u8> {
-        let least = if kind_of(self.round) == VALUE { 0 } else { NONE };
+        let least = if kind_of(self.round) == VALUE {
+            0
+        } else {
+            NONE
+        };
         match self.behind.sent.is_empty() {
             true => frame(self.round, least, &[]),
             false => self.behind.sent.clone(),

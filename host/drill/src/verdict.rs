@@ -51,16 +51,26 @@ pub fn verdict(run: &Run) -> Verdict {
         false => format!("in rounds {first} to {last}"),
     };
     let inputs = run.scenario.correct.iter();
-    let by: Vec<u32> = inputs.filter(|(_, &input)| input == bit).map(|(&n, _)| n).collect();
+    let by: Vec<u32> = inputs
+        .filter(|(_, &input)| input == bit)
+        .map(|(&n, _)| n)
+        .collect();
     if by.is_empty() {
-        return broken(format!("all decided {bit} {when}, which no correct one brought in"));
+        return broken(format!(
+            "all decided {bit} {when}, which no correct one brought in"
+        ));
     }
     if last > limit {
-        return broken(format!("all decided {bit}, but {when}, past the limit {limit}"));
+        return broken(format!(
+            "all decided {bit}, but {when}, past the limit {limit}"
+        ));
     }
     Verdict {
         agreed: true,
-        text: format!("all decided {bit} {when} (limit {limit}), brought in by {}", named(&by)),
+        text: format!(
+            "all decided {bit} {when} (limit {limit}), brought in by {}",
+            named(&by)
+        ),
     }
 }
 
@@ -73,9 +83,15 @@ fn broken(what: String) -> Verdict {
 
 /// Who decided what, where they did not all decide alike.
 fn apart(zero: &[u32], one: &[u32], none: &[u32]) -> String {
-    let groups = [(zero, "decided 0"), (one, "decided 1"), (none, "never decided")];
+    let groups = [
+        (zero, "decided 0"),
+        (one, "decided 1"),
+        (none, "never decided"),
+    ];
     let told = groups.iter().filter(|(who, _)| !who.is_empty());
-    let parts: Vec<String> = told.map(|(who, what)| format!("{} {what}", named(who))).collect();
+    let parts: Vec<String> = told
+        .map(|(who, what)| format!("{} {what}", named(who)))
+        .collect();
     parts.join(", ")
 }
 

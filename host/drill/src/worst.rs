@@ -60,10 +60,16 @@ fn heading(run: &Run, tries: u64) -> Vec<String> {
     let bits = match harm.united {
         1 => "All correct ones held one bit from the start.".into(),
         u32::MAX => "The correct ones held different bits to the end.".into(),
-        round => format!("The correct ones held different bits up to round {}.", round - 1),
+        round => format!(
+            "The correct ones held different bits up to round {}.",
+            round - 1
+        ),
     };
     vec![
         format!("The worst of {tries} random liars: {}", verdict(run).text),
-        format!("{bits} They named different kings in {}.", times(harm.apart, "phase")),
+        format!(
+            "{bits} They named different kings in {}.",
+            times(harm.apart, "phase")
+        ),
     ]
 }

@@ -13,7 +13,9 @@ pub fn write(scenario: &Scenario) -> String {
         let _ = writeln!(out, "# {remark}");
     }
     let members = scenario.correct.iter();
-    let members: Vec<String> = members.map(|(number, bit)| format!("{number}={bit}")).collect();
+    let members: Vec<String> = members
+        .map(|(number, bit)| format!("{number}={bit}"))
+        .collect();
     let _ = writeln!(out, "line {}", members.join(" "));
     if !scenario.faulty.is_empty() {
         let _ = writeln!(out, "faulty {}", numbers(&scenario.faulty));
@@ -54,9 +56,11 @@ fn rounds(rounds: &RangeInclusive<u32>) -> String {
 
 fn deed(scenario: &Scenario, deed: &Deed) -> String {
     match deed {
-        Deed::Tells { who, whom: Whom::All, what } if what[..] == [Saying::Honest] => {
-            plays_along(scenario, *who)
-        }
+        Deed::Tells {
+            who,
+            whom: Whom::All,
+            what,
+        } if what[..] == [Saying::Honest] => plays_along(scenario, *who),
         Deed::Tells { who, whom, what } => {
             let what: Vec<String> = what.iter().map(ToString::to_string).collect();
             match who {
@@ -70,11 +74,16 @@ fn deed(scenario: &Scenario, deed: &Deed) -> String {
 
 /// With the bit that the controller behind the card was started with, if that was said.
 fn plays_along(scenario: &Scenario, who: Option<u32>) -> String {
-    let mut all = scenario.faulty.iter().filter(|&&number| who.is_none_or(|w| w == number));
-    let bits = all.try_fold(None, |bit, number| match (bit, scenario.behind.get(number)) {
-        (None, Some(&behind)) => Some(Some(behind)),
-        (Some(bit), Some(&behind)) if bit == behind => Some(Some(bit)),
-        _ => None,
+    let mut all = scenario
+        .faulty
+        .iter()
+        .filter(|&&number| who.is_none_or(|w| w == number));
+    let bits = all.try_fold(None, |bit, number| {
+        match (bit, scenario.behind.get(number)) {
+            (None, Some(&behind)) => Some(Some(behind)),
+            (Some(bit), Some(&behind)) if bit == behind => Some(Some(bit)),
+            _ => None,
+        }
     });
     let along = match who {
         Some(number) => format!("{number} plays along"),

@@ -22,7 +22,10 @@ fn random_scenario(seed: u64, size: usize, faulty: usize) -> Scenario {
     let correct = numbers.split_off(faulty);
     let mut line = Scenario {
         faulty: numbers.into_iter().collect(),
-        correct: correct.into_iter().map(|number| (number, random.bit())).collect(),
+        correct: correct
+            .into_iter()
+            .map(|number| (number, random.bit()))
+            .collect(),
         ..Scenario::default()
     };
     line.orders = match random.percent(60) {
@@ -52,7 +55,9 @@ fn claims_hold(run: &Run) -> bool {
     let last = &run.rounds.last().expect("a round").correct;
     let decision = last[0].state.decision;
     let limit = 3 + 3 * (run.scenario.correct.len() + run.scenario.faulty.len()) as u32;
-    let decided = last.iter().all(|seen| seen.state.decision == decision && seen.state.round <= limit);
+    let decided = last
+        .iter()
+        .all(|seen| seen.state.decision == decision && seen.state.round <= limit);
     let brought = run.scenario.correct.values().any(|&bit| bit == decision);
     decided && brought && decision < 2
 }
@@ -82,7 +87,11 @@ fn a_thousand_lines_agree() {
         let run = run(&scenario, Rule::Engine).expect("a run");
         let verdict = verdict(&run);
         assert!(scenario.is_promised());
-        assert!(verdict.agreed && claims_hold(&run), "seed {seed}: {}", verdict.text);
+        assert!(
+            verdict.agreed && claims_hold(&run),
+            "seed {seed}: {}",
+            verdict.text
+        );
         assert!(decisions_stay(&run), "seed {seed}");
         let after = drill::story::united(&run).expect("one bit at the end");
         divided += usize::from(after.round > 6);
@@ -102,7 +111,12 @@ fn where_nothing_is_promised_some_break() {
         let run = run(&scenario, Rule::Engine).expect("a run");
         let verdict = verdict(&run);
         assert!(!scenario.is_promised());
-        assert_eq!(verdict.agreed, claims_hold(&run), "seed {seed}: {}", verdict.text);
+        assert_eq!(
+            verdict.agreed,
+            claims_hold(&run),
+            "seed {seed}: {}",
+            verdict.text
+        );
         assert_eq!(verdict.text.starts_with("BROKEN"), !verdict.agreed);
         assert!(decisions_stay(&run), "seed {seed}");
         broken += usize::from(!verdict.agreed);
@@ -118,18 +132,35 @@ fn junk_changes_nothing() {
         let size = 1 + seed as usize % 9;
         let quiet = random_scenario(seed, size, (size - 1) / 3);
         let mut loud = quiet.clone();
-        for junk in [Junk::Noise, Junk::Cut, Junk::Old, Junk::Forged, Junk::Crowd, Junk::Bytes(vec![0; 7])] {
+        for junk in [
+            Junk::Noise,
+            Junk::Cut,
+            Junk::Old,
+            Junk::Forged,
+            Junk::Crowd,
+            Junk::Bytes(vec![0; 7]),
+        ] {
             loud.orders.push(Order {
                 line: 1,
                 rounds: 1..=194,
                 seed,
-                deed: Deed::Junk { whom: Whom::All, junk },
+                deed: Deed::Junk {
+                    whom: Whom::All,
+                    junk,
+                },
             });
         }
-        let (quiet, loud) = (run(&quiet, Rule::Engine).expect("a run"), run(&loud, Rule::Engine).expect("a run"));
+        let (quiet, loud) = (
+            run(&quiet, Rule::Engine).expect("a run"),
+            run(&loud, Rule::Engine).expect("a run"),
+        );
         for (a, b) in quiet.rounds.iter().zip(&loud.rounds) {
             for (a, b) in a.correct.iter().zip(&b.correct) {
-                assert_eq!((&a.sent, a.state.image()), (&b.sent, b.state.image()), "seed {seed}");
+                assert_eq!(
+                    (&a.sent, a.state.image()),
+                    (&b.sent, b.state.image()),
+                    "seed {seed}"
+                );
             }
         }
         let first = &loud.rounds[0].correct[0].junk;
@@ -161,7 +192,10 @@ fn the_worst_is_kept() {
         let kept = worst(&line, tries, Rule::Engine);
         let run = run(&kept, Rule::Engine).expect("a run");
         assert!(verdict(&run).agreed);
-        (run.rounds.len(), drill::story::united(&run).map(|round| round.round))
+        (
+            run.rounds.len(),
+            drill::story::united(&run).map(|round| round.round),
+        )
     };
     assert!(last(1) <= last(50) && last(50) <= last(300));
     assert_eq!(last(300).0, 18);

@@ -1,9 +1,9 @@
 //! The command: its words, what it prints, and how it ends.
 
+use std::fs;
 use std::io::Write;
 use std::path::{Path, PathBuf};
 use std::process::{Command, Output, Stdio};
-use std::fs;
 
 const AGREED: Option<i32> = Some(0);
 const BROKEN: Option<i32> = Some(1);
@@ -48,7 +48,13 @@ fn without_words_it_runs_the_incident_and_says_what_else() {
     let printed = out(&output);
     assert!(printed.starts_with("The incident: "));
     assert!(printed.contains("\nall decided 0 in round 18 (limit 18), brought in by 6 and 10\n"));
-    for part in ["--page", "--rule printed", "--worst", "docs/DRILL.md", "spare-section"] {
+    for part in [
+        "--page",
+        "--rule printed",
+        "--worst",
+        "docs/DRILL.md",
+        "spare-section",
+    ] {
         assert!(printed.contains(part), "{part}");
     }
     assert!(!printed.contains('\x1b'));
@@ -88,7 +94,10 @@ fn a_wrong_scenario_ends_with_2_and_nothing_is_run() {
 /// Bytes from the cable that are a tray of the round would be worked.
 #[test]
 fn junk_that_is_a_tray_is_a_mistake() {
-    let output = drill_with(&["-"], "line 5=1\nround 1 junk for 5: bytes 00000001 0000 0000\n");
+    let output = drill_with(
+        &["-"],
+        "line 5=1\nround 1 junk for 5: bytes 00000001 0000 0000\n",
+    );
     assert_eq!((output.status.code(), out(&output)), (WRONG, String::new()));
     assert!(error(&output).starts_with("-, line 2: 5 works these bytes as its tray of round 1\n"));
 }
@@ -100,15 +109,29 @@ fn wrong_words_end_with_2() {
         (&["--worst"], "--worst lacks its value"),
         (&["--worst", "0"], "--worst 0: a number from 1"),
         (&["--width", "12"], "--width 12: a number from 40"),
-        (&["--rule", "engine"], "--rule engine: there is only printed"),
+        (
+            &["--rule", "engine"],
+            "--rule engine: there is only printed",
+        ),
         (&["incident", "flood"], "flood: one scenario at a time"),
         (&["--page"], "--page lacks its value"),
-        (&["--page", "/no/such/folder/page.html"], "/no/such/folder/page.html: "),
+        (
+            &["--page", "/no/such/folder/page.html"],
+            "/no/such/folder/page.html: ",
+        ),
     ];
     for (words, what) in wrong {
         let output = drill(words);
-        assert_eq!((output.status.code(), out(&output)), (WRONG, String::new()), "{words:?}");
-        assert!(error(&output).starts_with(what), "{words:?}: {}", error(&output));
+        assert_eq!(
+            (output.status.code(), out(&output)),
+            (WRONG, String::new()),
+            "{words:?}"
+        );
+        assert!(
+            error(&output).starts_with(what),
+            "{words:?}: {}",
+            error(&output)
+        );
     }
     assert_eq!(drill(&["--help"]).status.code(), AGREED);
 }
@@ -121,7 +144,12 @@ fn the_worst_is_a_scenario() {
     assert!(text.starts_with("# The worst of 50 random liars: all decided "));
     let again = drill_with(&["-"], &text);
     assert_eq!(again.status.code(), AGREED);
-    let verdict = text.lines().next().and_then(|line| line.split_once("liars: ")).expect("a verdict").1;
+    let verdict = text
+        .lines()
+        .next()
+        .and_then(|line| line.split_once("liars: "))
+        .expect("a verdict")
+        .1;
     assert!(out(&again).contains(&format!("\n{verdict}\n")));
     let broken = drill(&["--worst", "100", "line-of-three"]);
     assert_eq!(broken.status.code(), BROKEN);
@@ -140,5 +168,7 @@ fn the_page_is_written() {
     let file = temporary("incident.svg");
     let name = file.to_str().expect("a name");
     assert_eq!(drill(&["incident", "--page", name]).status.code(), AGREED);
-    assert!(fs::read_to_string(&file).expect("the picture").starts_with("<svg "));
+    assert!(fs::read_to_string(&file)
+        .expect("the picture")
+        .starts_with("<svg "));
 }

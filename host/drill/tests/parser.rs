@@ -37,7 +37,11 @@ fn wrong(orders: &str, what: &str, allowed: &str) {
     let mistake = mistake(&text);
     assert_eq!(mistake.line, 3, "{orders}: {mistake:?}");
     assert!(mistake.what.contains(what), "{orders}: {}", mistake.what);
-    assert!(mistake.allowed.contains(allowed), "{orders}: {}", mistake.allowed);
+    assert!(
+        mistake.allowed.contains(allowed),
+        "{orders}: {}",
+        mistake.allowed
+    );
 }
 
 /// The orders of a text for that line.
@@ -70,14 +74,35 @@ fn every_form_reads() {
 
 #[test]
 fn what_is_told() {
-    assert_eq!(told("round 2 3 tells all: lists 7 5 1000-1002"), [Saying::Lists(vec![5, 7, 1000, 1001, 1002])]);
-    assert_eq!(told("round 2 3 tells all: lists nothing"), [Saying::Lists(vec![])]);
-    assert_eq!(told("round 4 3 tells 5: propose none"), [Saying::Propose(2)]);
-    assert_eq!(told("round 5 3 tells 5: opinion 1"), [Saying::Opinion(1, vec![])]);
-    assert_eq!(told("round 8 3 tells 5: opinion none lists 3 5"), [Saying::Opinion(2, vec![3, 5])]);
+    assert_eq!(
+        told("round 2 3 tells all: lists 7 5 1000-1002"),
+        [Saying::Lists(vec![5, 7, 1000, 1001, 1002])]
+    );
+    assert_eq!(
+        told("round 2 3 tells all: lists nothing"),
+        [Saying::Lists(vec![])]
+    );
+    assert_eq!(
+        told("round 4 3 tells 5: propose none"),
+        [Saying::Propose(2)]
+    );
+    assert_eq!(
+        told("round 5 3 tells 5: opinion 1"),
+        [Saying::Opinion(1, vec![])]
+    );
+    assert_eq!(
+        told("round 8 3 tells 5: opinion none lists 3 5"),
+        [Saying::Opinion(2, vec![3, 5])]
+    );
     assert_eq!(told("always 3 tells 5: repeats 7"), [Saying::Repeats(7)]);
-    assert_eq!(told("always 3 tells 5: bytes 0000 03 ff"), [Saying::Bytes(vec![0, 0, 3, 255])]);
-    assert_eq!(told("always 3 tells 5: bit 0 and bit 1 and garbled"), [Saying::Bit(0), Saying::Bit(1), Saying::Garbled]);
+    assert_eq!(
+        told("always 3 tells 5: bytes 0000 03 ff"),
+        [Saying::Bytes(vec![0, 0, 3, 255])]
+    );
+    assert_eq!(
+        told("always 3 tells 5: bit 0 and bit 1 and garbled"),
+        [Saying::Bit(0), Saying::Bit(1), Saying::Garbled]
+    );
     assert_eq!(told("from 2 3 plays along"), [Saying::Honest]);
 }
 
@@ -88,14 +113,19 @@ fn whom_it_is_told() {
     };
     assert_eq!(whom("always 3 tells all: silent"), Whom::All);
     assert_eq!(whom("always 3 tells each: anything"), Whom::Each);
-    assert_eq!(whom("always 3 tells 5-8: silent"), Whom::These([5, 7].into()));
+    assert_eq!(
+        whom("always 3 tells 5-8: silent"),
+        Whom::These([5, 7].into())
+    );
     assert_eq!(whom("round 2 junk for 9: noise"), Whom::These([9].into()));
 }
 
 /// A number before `tells` begins the next deed, though a list or bytes could go on.
 #[test]
 fn deeds_side_by_side() {
-    let orders = orders("round 2 3 tells 5: lists 3 5 3 tells 7: bytes 00 01 3 tells 9: silent junk for 5: old");
+    let orders = orders(
+        "round 2 3 tells 5: lists 3 5 3 tells 7: bytes 00 01 3 tells 9: silent junk for 5: old",
+    );
     let what: Vec<Deed> = orders.into_iter().map(|order| order.deed).collect();
     let tells = |to: u32, what: Saying| Deed::Tells {
         who: Some(3),
@@ -151,7 +181,11 @@ fn mistakes_on_who_is_there() {
     wrong("line 1-4000000000=1\n", 1, "one more than 64");
     wrong("line 5=1\nlien 7=0\n", 2, "no line begins with `lien`");
     wrong("line 5=1\n3 tells 5: init\n", 2, "no line begins with `3`");
-    wrong("line 5=1\nround 1 3 tells 5: init\n", 2, "3 is not on the line");
+    wrong(
+        "line 5=1\nround 1 3 tells 5: init\n",
+        2,
+        "3 is not on the line",
+    );
 }
 
 #[test]
@@ -159,58 +193,158 @@ fn mistakes_on_rounds() {
     wrong("round", "the round is missing", "round 3");
     wrong("round x 3 tells 5: init", "`x` is no number", "round 3");
     wrong("round 0 3 tells 5: init", "`0` is no number", "round 3");
-    wrong("round 4-8 3 tells 5: silent", "these are several", "rounds 4-8");
+    wrong(
+        "round 4-8 3 tells 5: silent",
+        "these are several",
+        "rounds 4-8",
+    );
     wrong("rounds 8-4 3 tells 5: silent", "backwards", "rounds 4-8");
     wrong("round 195 3 tells 5: silent", "nothing is sent", "1 to 194");
     wrong("from 200 3 plays along", "nothing is sent", "1 to 194");
     wrong("seed 3x 3 tells 5: anything", "`3x` is no seed", "seed 17");
-    wrong("round 3", "it is not said what is done", "3 tells 5 7: bit 0");
+    wrong(
+        "round 3",
+        "it is not said what is done",
+        "3 tells 5 7: bit 0",
+    );
 }
 
 #[test]
 fn mistakes_on_deeds() {
     wrong("round 3 5 tells 7: value 0", "5 is correct", "3");
     wrong("round 3 4 tells 7: value 0", "4 is not on the line", "3");
-    wrong("round 3 card tells 7: value 0", "`card` is unknown here", "3");
-    wrong("round 3 3 says 7: value 0", "after 3 stands `says`", "tells, plays along");
+    wrong(
+        "round 3 card tells 7: value 0",
+        "`card` is unknown here",
+        "3",
+    );
+    wrong(
+        "round 3 3 says 7: value 0",
+        "after 3 stands `says`",
+        "tells, plays along",
+    );
     wrong("round 3 3 plays 7", "after plays stands `7`", "plays along");
     wrong("round 3 3 plays along with 2", "the bit", "with 0, with 1");
-    wrong("always 3 plays along with 0 3 plays along with 1", "was to be started with 0", "one bit");
+    wrong(
+        "always 3 plays along with 0 3 plays along with 1",
+        "was to be started with 0",
+        "one bit",
+    );
     wrong("round 3 3 tells : value 0", "nobody is named", "5 7 9");
-    wrong("round 3 3 tells 5 value 0", "`value` is no number", "then a colon");
-    wrong("round 3 3 tells all value 0", "the colon is missing", "then a colon");
-    wrong("round 3 3 tells 3: value 0", "3 is nobody who can be told", "5 7 9");
-    wrong("round 3 3 tells 4: value 0", "4 is nobody who can be told", "5 7 9");
+    wrong(
+        "round 3 3 tells 5 value 0",
+        "`value` is no number",
+        "then a colon",
+    );
+    wrong(
+        "round 3 3 tells all value 0",
+        "the colon is missing",
+        "then a colon",
+    );
+    wrong(
+        "round 3 3 tells 3: value 0",
+        "3 is nobody who can be told",
+        "5 7 9",
+    );
+    wrong(
+        "round 3 3 tells 4: value 0",
+        "4 is nobody who can be told",
+        "5 7 9",
+    );
     wrong("round 3 3 tells 5 5: value 0", "5 is named twice", "5 7 9");
     wrong("round 3 junk 5: noise", "after junk stands `5`", "junk for");
-    wrong("round 3 junk for 3: noise", "3 is nobody", "correct ones (5 7 9)");
+    wrong(
+        "round 3 junk for 3: noise",
+        "3 is nobody",
+        "correct ones (5 7 9)",
+    );
     wrong("round 3 junk for 5: dirt", "`dirt` is no junk", "noise");
     wrong("round 3 junk for 5:", "which junk", "noise");
-    wrong("round 3 junk for 5: noise again", "after the junk stands `again`", "another deed");
+    wrong(
+        "round 3 junk for 5: noise again",
+        "after the junk stands `again`",
+        "another deed",
+    );
 }
 
 #[test]
 fn mistakes_on_what_is_told() {
-    wrong("round 3 3 tells 5:", "it is not said what is told", "value 0, value 1");
-    wrong("round 3 3 tells 5: valu 0", "`valu` is nothing that can be told", "value 0, value 1");
+    wrong(
+        "round 3 3 tells 5:",
+        "it is not said what is told",
+        "value 0, value 1",
+    );
+    wrong(
+        "round 3 3 tells 5: valu 0",
+        "`valu` is nothing that can be told",
+        "value 0, value 1",
+    );
     wrong("round 3 3 tells 5: value 2", "`2` is no bit", "0, 1");
     wrong("round 3 3 tells 5: value", "the bit is missing", "0, 1");
-    wrong("round 4 3 tells 5: propose maybe", "`maybe` is no bit", "0, 1, none");
-    wrong("round 4 3 tells 5: value 0", "is not of round 4, a propose round", "propose 0");
-    wrong("rounds 3-5 3 tells 5: value 0", "is not of round 4", "bit 0");
-    wrong("round 3 3 tells 5: lists 3", "is not of round 3, a value round", "value 0");
-    wrong("round 2 3 tells 5: lists", "the numbers are missing", "lists nothing");
-    wrong("round 2 3 tells 5: lists 0", "`0` is no number", "lists nothing");
-    wrong("round 2 3 tells 5: lists 3 3", "3 is listed twice", "lists nothing");
+    wrong(
+        "round 4 3 tells 5: propose maybe",
+        "`maybe` is no bit",
+        "0, 1, none",
+    );
+    wrong(
+        "round 4 3 tells 5: value 0",
+        "is not of round 4, a propose round",
+        "propose 0",
+    );
+    wrong(
+        "rounds 3-5 3 tells 5: value 0",
+        "is not of round 4",
+        "bit 0",
+    );
+    wrong(
+        "round 3 3 tells 5: lists 3",
+        "is not of round 3, a value round",
+        "value 0",
+    );
+    wrong(
+        "round 2 3 tells 5: lists",
+        "the numbers are missing",
+        "lists nothing",
+    );
+    wrong(
+        "round 2 3 tells 5: lists 0",
+        "`0` is no number",
+        "lists nothing",
+    );
+    wrong(
+        "round 2 3 tells 5: lists 3 3",
+        "3 is listed twice",
+        "lists nothing",
+    );
     wrong("round 2 3 tells 5: lists 1-65", "too many numbers", "64");
-    wrong("round 3 3 tells 5: repeats 3", "`3` is no correct one", "5 7 9");
+    wrong(
+        "round 3 3 tells 5: repeats 3",
+        "`3` is no correct one",
+        "5 7 9",
+    );
     wrong("round 3 3 tells 5: bytes", "the bytes are missing", "hex");
     wrong("round 3 3 tells 5: bytes 0g", "`0g` is not hex", "hex");
     wrong("round 3 3 tells 5: bytes 012", "`012` is not hex", "hex");
-    wrong("round 3 3 tells 5: bytes 00*9999999999", "is not hex", "hex");
-    wrong("round 3 3 tells 5: value 0 value 1", "stands `value`", "and with another frame");
-    wrong("round 3 3 tells 5: silent and value 0", "silent is no frame", "silent alone");
-    wrong("round 3 3 tells 5: twice and twice", "too many frames", "at most 3");
+    wrong(
+        "round 3 3 tells 5: bytes 00*9999999999",
+        "is not hex",
+        "hex",
+    );
+    wrong(
+        "round 3 3 tells 5: value 0 value 1",
+        "stands `value`",
+        "and with another frame",
+    );
+    wrong(
+        "round 3 3 tells 5: silent and value 0",
+        "silent is no frame",
+        "silent alone",
+    );
+    wrong(
+        "round 3 3 tells 5: twice and twice",
+        "too many frames",
+        "at most 3",
+    );
     let long = format!("round 3 3 tells 5: bytes {}", "00".repeat(321));
     wrong(&long, "too many bytes", "320");
 }
@@ -218,7 +352,8 @@ fn mistakes_on_what_is_told() {
 /// A mistake for each line that has one, each with a mark under its words.
 #[test]
 fn all_mistakes_are_shown() {
-    let text = format!("{LINE}round 3 3 tells 5: valu 0\nround 4 3 plays along\nround 5 7 plays along\n");
+    let text =
+        format!("{LINE}round 3 3 tells 5: valu 0\nround 4 3 plays along\nround 5 7 plays along\n");
     let mistakes = parse(&text).expect_err("mistakes");
     let expected = "\
 x.txt, line 3: `valu` is nothing that can be told
@@ -237,16 +372,51 @@ x.txt, line 5: 7 is correct, and does as the rules say
 #[test]
 fn any_text_is_read_or_refused() {
     let words = [
-        "line", "faulty", "round", "rounds", "from", "always", "seed", "3", "5", "7=1", "4-8", "9-1", ":", "tells",
-        "plays", "along", "with", "lists", "value", "bytes", "and", "junk", "for", "all", "\n", "\t", "#", "=", "-",
-        "é", "\u{1b}[31m", "opinion", "none", "99999999999999999999",
+        "line",
+        "faulty",
+        "round",
+        "rounds",
+        "from",
+        "always",
+        "seed",
+        "3",
+        "5",
+        "7=1",
+        "4-8",
+        "9-1",
+        ":",
+        "tells",
+        "plays",
+        "along",
+        "with",
+        "lists",
+        "value",
+        "bytes",
+        "and",
+        "junk",
+        "for",
+        "all",
+        "\n",
+        "\t",
+        "#",
+        "=",
+        "-",
+        "é",
+        "\u{1b}[31m",
+        "opinion",
+        "none",
+        "99999999999999999999",
     ];
     let mut random = checks::random::Random::new(1);
     let mut read = 0;
     for _ in 0..20_000 {
         let count = random.below(12);
         let text: Vec<&str> = (0..count).map(|_| random.pick(&words)).collect();
-        let text = format!("{}{}", random.pick(&["", LINE]), text.join(random.pick(&[" ", "", "  "])));
+        let text = format!(
+            "{}{}",
+            random.pick(&["", LINE]),
+            text.join(random.pick(&[" ", "", "  "]))
+        );
         match parse(&text) {
             Ok(_) => read += 1,
             Err(mistakes) => assert!(!shown("text", &text, &mistakes).contains('\u{1b}')),
@@ -266,10 +436,17 @@ fn what_is_written_reads_as_the_same() {
     let again = |scenario: &Scenario| {
         let text = write(scenario);
         let read = parse(&text).unwrap_or_else(|m| panic!("{}", shown("text", &text, &m)));
-        assert_eq!(without_lines(read), without_lines(scenario.clone()), "{text}");
+        assert_eq!(
+            without_lines(read),
+            without_lines(scenario.clone()),
+            "{text}"
+        );
     };
     let own = format!("{LINE}always 3 plays along with 1\nrounds 2-4 seed 9 faulty tell each: anything and empty\n");
-    let texts = bundled::ALL.iter().map(|(_, text)| *text).chain([FORMS, &own]);
+    let texts = bundled::ALL
+        .iter()
+        .map(|(_, text)| *text)
+        .chain([FORMS, &own]);
     for text in texts {
         again(&parse(text).expect(text));
     }

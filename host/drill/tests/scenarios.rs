@@ -36,24 +36,37 @@ fn compare(file: &str, printed: &str) {
 #[test]
 fn every_table_is_as_stored() {
     for (name, _) in bundled::ALL {
-        compare(&format!("{name}.table"), &printed(name, Rule::Engine, WIDTH));
+        compare(
+            &format!("{name}.table"),
+            &printed(name, Rule::Engine, WIDTH),
+        );
     }
-    compare("last-trial.printed.table", &printed("last-trial", Rule::Printed, WIDTH));
+    compare(
+        "last-trial.printed.table",
+        &printed("last-trial", Rule::Printed, WIDTH),
+    );
 }
 
 /// Every scenario of the folder is one that the drill knows, with a title and two lines on what
 /// to notice.
 #[test]
 fn every_file_comes_with_the_drill() {
-    let files = fs::read_dir(folder()).expect("the folder").map(|file| file.expect("a file").path());
-    let texts: Vec<PathBuf> = files.filter(|file| file.extension().is_some_and(|e| e == "txt")).collect();
+    let files = fs::read_dir(folder())
+        .expect("the folder")
+        .map(|file| file.expect("a file").path());
+    let texts: Vec<PathBuf> = files
+        .filter(|file| file.extension().is_some_and(|e| e == "txt"))
+        .collect();
     assert_eq!(texts.len(), bundled::ALL.len());
     for (name, text) in bundled::ALL {
         let file = folder().join(format!("{name}.txt"));
         assert_eq!(fs::read_to_string(&file).expect(name), text);
         let heading = parse(text).expect(name).heading;
         assert_eq!(heading.len(), 3, "{name}");
-        assert!(heading[1..].iter().all(|line| line.starts_with("Notice: ")), "{name}");
+        assert!(
+            heading[1..].iter().all(|line| line.starts_with("Notice: ")),
+            "{name}"
+        );
     }
 }
 
@@ -63,7 +76,12 @@ fn what_holds_and_what_breaks() {
     for (name, text) in bundled::ALL {
         let scenario = parse(text).expect(name);
         let verdict = verdict(&run(&scenario, Rule::Engine).expect(name));
-        assert_eq!(verdict.agreed, name != "line-of-three", "{name}: {}", verdict.text);
+        assert_eq!(
+            verdict.agreed,
+            name != "line-of-three",
+            "{name}: {}",
+            verdict.text
+        );
         assert_eq!(scenario.is_promised(), name != "line-of-three", "{name}");
     }
     let scenario = parse(bundled::text("last-trial").expect("a text")).expect("a scenario");
@@ -76,12 +94,24 @@ fn what_holds_and_what_breaks() {
 fn the_last_trial_is_document_01s() {
     let scenario = parse(bundled::text("last-trial").expect("a text")).expect("a scenario");
     let run = run(&scenario, Rule::Engine).expect("a run");
-    let kings = |round: usize| run.rounds[round - 1].correct.iter().map(|seen| seen.state.king).collect::<Vec<_>>();
+    let kings = |round: usize| {
+        run.rounds[round - 1]
+            .correct
+            .iter()
+            .map(|seen| seen.state.king)
+            .collect::<Vec<_>>()
+    };
     assert_eq!(kings(3), [5, 5, 3]);
     assert_eq!(kings(6), [5, 5, 5]);
     let all = [3, 5, 7, 9];
-    assert!(run.rounds[5].correct.iter().all(|seen| seen.state.candidates == all));
-    assert!(run.rounds[14].correct.iter().all(|seen| seen.state.round == 15 && !seen.state.undecided()));
+    assert!(run.rounds[5]
+        .correct
+        .iter()
+        .all(|seen| seen.state.candidates == all));
+    assert!(run.rounds[14]
+        .correct
+        .iter()
+        .all(|seen| seen.state.round == 15 && !seen.state.undecided()));
 }
 
 /// However narrow or wide, no line is wider, and no word is lost.
@@ -90,11 +120,21 @@ fn tables_fit_the_width() {
     for (name, _) in bundled::ALL {
         for width in [40, 41, 60, 80, 100, 137, 250] {
             let printed = printed(name, Rule::Engine, width);
-            let verdict = |line: &&str| line.starts_with("all decided") || line.starts_with("BROKEN");
+            let verdict =
+                |line: &&str| line.starts_with("all decided") || line.starts_with("BROKEN");
             let lines = printed.lines().filter(|line| !verdict(line));
             let widest = lines.map(|line| line.chars().count()).max();
-            assert!(widest.is_some_and(|widest| widest <= width), "{name}, {width}: {widest:?}");
-            assert_eq!(printed.matches("DECIDED").count(), parse(bundled::text(name).expect(name)).expect(name).correct.len());
+            assert!(
+                widest.is_some_and(|widest| widest <= width),
+                "{name}, {width}: {widest:?}"
+            );
+            assert_eq!(
+                printed.matches("DECIDED").count(),
+                parse(bundled::text(name).expect(name))
+                    .expect(name)
+                    .correct
+                    .len()
+            );
         }
     }
 }
@@ -108,9 +148,18 @@ fn colour_is_only_added() {
     assert!(coloured.contains("\x1b[94mbit\x1b[0m"));
     let mut plain = String::new();
     for (place, part) in coloured.split("\x1b[").enumerate() {
-        let kept = if place == 0 { part } else { part.split_once('m').expect("an end").1 };
+        let kept = if place == 0 {
+            part
+        } else {
+            part.split_once('m').expect("an end").1
+        };
         plain.push_str(kept);
     }
-    let trimmed = |text: &str| text.lines().map(str::trim_end).collect::<Vec<_>>().join("\n");
+    let trimmed = |text: &str| {
+        text.lines()
+            .map(str::trim_end)
+            .collect::<Vec<_>>()
+            .join("\n")
+    };
     assert_eq!(trimmed(&plain), trimmed(&shown(&run, WIDTH, false)));
 }

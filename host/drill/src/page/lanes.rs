@@ -13,7 +13,11 @@ pub fn shared(plan: &Plan) -> String {
     let ground = element(r#"g id="ground""#, &ground(plan));
     let names: String = plan.lanes.iter().map(|lane| name(plan, lane)).collect();
     let names = element(r#"g id="names""#, &names);
-    element("defs", &format!("{SIGNS}{ground}{names}"))
+    let markers = match plan.live && !plan.has_words() {
+        true => told::markers(),
+        false => String::new(),
+    };
+    element("defs", &format!("{SIGNS}{markers}{ground}{names}"))
 }
 
 const SIGNS: &str = concat!(

@@ -28,6 +28,9 @@ pub const MORE: u32 = 16;
 /// The most parts that are drawn.
 pub const MOST_PARTS: usize = 4;
 
+/// The most on a line for words at the ends of the lines to receivers.
+const MOST_WITH_WORDS: usize = 16;
+
 pub struct Plan<'a> {
     pub run: &'a Run<'a>,
     /// In rising order of the numbers.
@@ -103,6 +106,11 @@ impl<'a> Plan<'a> {
     /// What a faulty one told in a round.
     pub fn groups(&self, round: &Round, place: usize) -> &[Group] {
         &self.told[round.round as usize - 1][place]
+    }
+
+    /// Whether there is room for words at the ends of lines; else there is one sign.
+    pub fn has_words(&self) -> bool {
+        self.lanes.len() <= MOST_WITH_WORDS
     }
 
     /// The lane of a number of the line.

@@ -3,8 +3,9 @@
 /// About how many pixels wide a text is. Measured by DejaVu Sans, which is wider than most.
 pub fn width(text: &str, size: u32) -> u32 {
     let hundredths = |c: char| match c {
-        'i' | 'j' | 'l' | '.' | ',' | ';' | ':' => 34,
-        ' ' | 'f' | 'r' | 't' | '-' => 41,
+        ' ' | 'i' | 'j' | 'l' | '.' | ',' | ';' | ':' => 33,
+        'f' | 'r' | 't' | '-' => 41,
+        's' => 54,
         'm' | 'w' | 'M' | 'W' => 98,
         _ => 64,
     };

@@ -13,8 +13,6 @@ use crate::words::numbers;
 
 /// The room for text in a part; the first one has the mark in its corner.
 const ROOM: u32 = BOX - 22;
-/// Up to so many on the line, each one's end of a line has words; else one sign.
-const MOST_WITH_WORDS: usize = 16;
 /// The most groups of a tooltip.
 const MOST_SPOKEN: usize = 12;
 /// The same on a line that is too long for words, for the sake of the page's size.
@@ -106,7 +104,7 @@ fn receivers(group: &Group, all: usize) -> String {
 
 /// What it told whom, in one sentence.
 fn spoken(plan: &Plan, number: u32, round: u32, groups: &[Group]) -> String {
-    let most = match has_words(plan) {
+    let most = match plan.has_words() {
         true => MOST_SPOKEN,
         false => FEWER_SPOKEN,
     };
@@ -122,27 +120,18 @@ fn spoken(plan: &Plan, number: u32, round: u32, groups: &[Group]) -> String {
     out
 }
 
-fn has_words(plan: &Plan) -> bool {
-    plan.lanes.len() <= MOST_WITH_WORDS
-}
-
 /// The lines to all receivers, one trunk for each tone, and at their ends what was told.
 fn lines(plan: &Plan, lane: &Lane, groups: &[Group], top: u32) -> String {
     let mut out = String::new();
-    for (rank, tone) in Tone::ALL.into_iter().enumerate() {
+    for tone in Tone::ALL {
         let ends = ends(plan, lane, groups, tone);
         if ends.is_empty() {
             continue;
         }
-        // Each tone has its own place in the gutter.
-        let trunk = 4 + 3 * rank as i32;
-        let mut stops: Vec<i32> = ends.iter().map(|(y, _)| *y).collect();
-        stops.extend(starts(groups, top, tone));
-        stops.sort_unstable();
-        let mut inner = format!(r#"<path d="{}"/>"#, branches(trunk, &stops));
-        inner += &match has_words(plan) {
-            true => ends.iter().map(|(y, words)| end_words(*y, words)).collect(),
-            false => end_signs(tone, &ends),
+        let mut inner = from(tone, &starts(groups, top, tone), &ends);
+        inner += &match plan.has_words() {
+            true => with_words(tone, &ends),
+            false => with_signs(tone, &ends),
         };
         out += &element(&format!(r#"g class="{}""#, tone.class()), &inner);
     }
@@ -161,30 +150,41 @@ fn ends<'a>(plan: &Plan, lane: &Lane, groups: &'a [Group], of: Tone) -> Vec<(i32
     ends
 }
 
-/// Where the lines of a tone begin: at its parts, or at those that are not drawn.
+/// Where the lines of a tone begin: at its parts, or at the line for those not drawn.
 fn starts(groups: &[Group], top: u32, of: Tone) -> Vec<i32> {
     let places = groups.iter().enumerate().filter(|(_, group)| tone(group) == of);
-    let mut starts: Vec<i32> = places
-        .map(|(place, _)| part_top(top, place.min(MOST_PARTS)))
-        .map(|y| (y + PART / 2) as i32)
-        .collect();
-    let below = (part_top(top, MOST_PARTS) + PART / 2) as i32;
-    for start in &mut starts {
-        *start = if *start == below { below - 10 } else { *start };
-    }
-    starts.dedup();
-    starts
+    let start = |(place, _)| match place < MOST_PARTS {
+        true => part_top(top, place) + PART / 2,
+        false => part_top(top, MOST_PARTS) + MORE / 2 - GAP,
+    };
+    places.map(start).map(|y| y as i32).collect()
 }
 
-/// A trunk with a branch at each stop, from the top to the bottom.
-fn branches(trunk: i32, stops: &[i32]) -> String {
-    let mut path = format!("M-{trunk} {}", stops[0]);
-    let mut at = stops[0];
-    for &stop in stops {
-        let _ = write!(path, "v{}h{trunk}h-{trunk}", stop - at);
-        at = stop;
+/// From the parts to the trunk of their tone, and along it to the nearest end.
+fn from(tone: Tone, starts: &[i32], ends: &[(i32, &str)]) -> String {
+    let mut path = String::new();
+    for &start in starts {
+        let near = ends.iter().map(|(y, _)| *y).min_by_key(|y| y.abs_diff(start));
+        let _ = write!(path, "M0 {start}H-{}V{}", trunk(tone), near.unwrap_or(start));
     }
-    path
+    format!(r#"<path d="{path}"/>"#)
+}
+
+/// How far left of the boxes the lines of a tone go: each tone has its place in the gutter.
+fn trunk(tone: Tone) -> i32 {
+    let rank = Tone::ALL.iter().position(|other| *other == tone);
+    4 + 3 * rank.unwrap_or(0) as i32
+}
+
+fn with_words(tone: Tone, ends: &[(i32, &str)]) -> String {
+    let trunk = trunk(tone);
+    let mut path = format!("M-{trunk} {}", ends[0].0);
+    let mut words = String::new();
+    for (y, told) in ends {
+        let _ = write!(path, "V{y}h{trunk}h-{trunk}");
+        words += &end_words(*y, told);
+    }
+    format!(r#"<path d="{path}"/>{words}"#)
 }
 
 fn end_words(y: i32, words: &str) -> String {
@@ -198,14 +198,29 @@ fn end_words(y: i32, words: &str) -> String {
     )
 }
 
-/// One text for all ends: each sign has its own place.
-fn end_signs(tone: Tone, ends: &[(i32, &str)]) -> String {
-    let signs: String = ends.iter().map(|_| tone.sign()).collect();
-    let left: Vec<&str> = ends.iter().map(|_| "2").collect();
-    let down: Vec<String> = ends.iter().map(|(y, _)| (y + 5).to_string()).collect();
-    format!(
-        r#"<text x="{}" y="{}">{signs}</text>"#,
-        left.join(" "),
-        down.join(" ")
-    )
+/// The trunk alone: the style puts a marker at each of its points.
+fn with_signs(tone: Tone, ends: &[(i32, &str)]) -> String {
+    let mut at = ends[0].0;
+    let mut path = format!("M-{} {at}", trunk(tone));
+    for (y, _) in ends {
+        let _ = write!(path, "v{}", y - at);
+        at = *y;
+    }
+    format!(r#"<path class="signs" d="{path}"/>"#)
+}
+
+/// The markers for signs: a branch to the box, and the sign at its end.
+pub fn markers() -> String {
+    let marker = |tone: Tone| {
+        let (class, trunk) = (tone.class(), trunk(tone));
+        format!(
+            "<marker id=\"end-{class}\" class=\"{class}\" markerWidth=\"40\" \
+             markerHeight=\"20\" refX=\"0\" refY=\"10\" markerUnits=\"userSpaceOnUse\">\
+             <path d=\"M0 10h{trunk}\"/><rect x=\"{trunk}\" y=\"2\" width=\"16\" height=\"16\" \
+             rx=\"8\"/><text x=\"{}\" y=\"14\">{}</text></marker>",
+            trunk + 8,
+            tone.sign()
+        )
+    };
+    Tone::ALL.into_iter().map(marker).collect()
 }

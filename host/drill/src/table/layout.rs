@@ -66,7 +66,11 @@ pub fn wrapped(lines: &[Line], width: usize, colour: bool) -> Vec<String> {
     let mut all = Vec::new();
     for line in lines {
         let mut row = Row::default();
-        for (word, style) in line.0.iter().flat_map(|(word, style)| pieces(word, *style, width)) {
+        for (word, style) in line
+            .0
+            .iter()
+            .flat_map(|(word, style)| pieces(word, *style, width))
+        {
             if !row.has_room(&word, width) {
                 all.push(std::mem::replace(&mut row, Row::hanging()).padded(width));
                 if !row.has_room(&word, width) {

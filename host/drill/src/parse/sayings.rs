@@ -6,9 +6,9 @@ use std::ops::RangeInclusive;
 use checks::packing::NONE;
 
 use crate::mistake::Mistake;
-use crate::parse::{bytes, span};
-use crate::scenario::{Saying, Scenario, MOST_FRAMES, MOST_LISTED};
-use crate::tokens::Words;
+use crate::parse::tokens::{number, span, Words};
+use crate::parse::Parsed;
+use crate::scenario::{Saying, Scenario, MOST_BYTES, MOST_FRAMES, MOST_LISTED};
 use crate::words::{self, ALWAYS_ALLOWED};
 
 /// Whether the next words begin another deed.
@@ -17,7 +17,7 @@ pub fn starts_deed(words: &Words) -> bool {
         Some("faulty" | "junk") => true,
         Some(word) => {
             let verb = matches!(words.after(1), Some("tells" | "tell" | "plays" | "play"));
-            verb && word.parse::<u32>().is_ok()
+            verb && number(word).is_some()
         }
         None => false,
     }
@@ -28,12 +28,15 @@ pub fn sayings(
     words: &mut Words,
     scenario: &Scenario,
     rounds: &RangeInclusive<u32>,
-) -> Result<Vec<Saying>, Mistake> {
+) -> Parsed<Vec<Saying>> {
     let mut all = Vec::new();
     loop {
         let saying = saying(words, scenario, rounds)?;
         if let Some(round) = rounds.clone().find(|&round| !saying.fits(round)) {
-            let what = format!("`{saying}` is not of round {round}, a {} round", words::kind(round));
+            let what = format!(
+                "`{saying}` is not of round {round}, a {} round",
+                words::kind(round)
+            );
             return Err(words.at_last(what, allowed(rounds)));
         }
         all.push(saying);
@@ -52,7 +55,10 @@ pub fn sayings(
         true => Ok(all),
         false => {
             let what = format!("after what is told stands {}", words.next_shown());
-            Err(words.at_next(what, "and with another frame, another deed, or the end of the line"))
+            Err(words.at_next(
+                what,
+                "and with another frame, another deed, or the end of the line",
+            ))
         }
     }
 }
@@ -64,11 +70,7 @@ fn allowed(rounds: &RangeInclusive<u32>) -> String {
     }
 }
 
-fn saying(
-    words: &mut Words,
-    scenario: &Scenario,
-    rounds: &RangeInclusive<u32>,
-) -> Result<Saying, Mistake> {
+fn saying(words: &mut Words, scenario: &Scenario, rounds: &RangeInclusive<u32>) -> Parsed<Saying> {
     let Some(word) = words.take() else {
         return Err(words.at_next("it is not said what is told", allowed(rounds)));
     };
@@ -103,7 +105,7 @@ fn saying(
     })
 }
 
-fn bit(words: &mut Words) -> Result<u8, Mistake> {
+fn bit(words: &mut Words) -> Parsed<u8> {
     match words.take() {
         Some("0") => Ok(0),
         Some("1") => Ok(1),
@@ -112,7 +114,7 @@ fn bit(words: &mut Words) -> Result<u8, Mistake> {
     }
 }
 
-fn choice(words: &mut Words) -> Result<u8, Mistake> {
+fn choice(words: &mut Words) -> Parsed<u8> {
     match words.take_if(&["none"]) {
         true => Ok(NONE),
         false => bit(words).map_err(|mistake| Mistake {
@@ -123,7 +125,7 @@ fn choice(words: &mut Words) -> Result<u8, Mistake> {
 }
 
 /// The numbers of a list, which may be anybody's and nobody's; `nothing` for none.
-fn list(words: &mut Words) -> Result<Vec<u32>, Mistake> {
+fn list(words: &mut Words) -> Parsed<Vec<u32>> {
     let form = format!("up to {MOST_LISTED} numbers, as in lists 3 5 1000-1009, or lists nothing");
     if words.take_if(&["nothing"]) {
         return Ok(Vec::new());
@@ -147,11 +149,33 @@ fn list(words: &mut Words) -> Result<Vec<u32>, Mistake> {
     }
 }
 
-fn repeated(words: &mut Words, scenario: &Scenario) -> Result<u32, Mistake> {
+fn repeated(words: &mut Words, scenario: &Scenario) -> Parsed<u32> {
     let form = format!("a correct one: {}", words::numbers(scenario.correct.keys()));
     let word = words.take().unwrap_or_default();
-    match word.parse() {
-        Ok(number) if scenario.correct.contains_key(&number) => Ok(number),
+    match number(word) {
+        Some(number) if scenario.correct.contains_key(&number) => Ok(number),
         _ => Err(words.at_last(format!("`{word}` is no correct one"), form)),
+    }
+}
+
+/// Pairs of hex digits, up to the next deed or `and`.
+pub fn bytes(words: &mut Words) -> Parsed<Vec<u8>> {
+    let form =
+        format!("pairs of hex digits, at most {MOST_BYTES} bytes: bytes 00000003 03 01 0000");
+    let mut all = Vec::new();
+    while words.peek().is_some_and(|word| word != "and") && !starts_deed(words) {
+        let word = words.take().unwrap_or_default();
+        let is_hex = word.bytes().all(|byte| byte.is_ascii_hexdigit());
+        let Some(bytes) = is_hex.then(|| checks::hex::bytes(word)).flatten() else {
+            return Err(words.at_last(format!("`{word}` is not hex"), form));
+        };
+        all.extend(bytes);
+        if all.len() > MOST_BYTES {
+            return Err(words.at_last("these are too many bytes", form));
+        }
+    }
+    match all.is_empty() {
+        true => Err(words.at_next("the bytes are missing", form)),
+        false => Ok(all),
     }
 }

@@ -1,8 +1,8 @@
 //! What stands in the cells of the table: a correct one's round, and what a faulty one told.
 
-use crate::layout::{Line, Style};
 use crate::run::{Round, Run, Seen};
 use crate::story::groups;
+use crate::table::layout::{Line, Style};
 use crate::words::{self, numbers, reading};
 
 /// The most groups of receivers that are told apart in a cell.
@@ -14,7 +14,10 @@ const LONG: usize = 40;
 pub fn head(run: &Run, number: u32) -> Vec<Line> {
     let name = Line::of(&number.to_string(), Style::Plain);
     match run.scenario.correct.get(&number) {
-        Some(&bit) => vec![name, Line::of(&format!("brought {bit}"), Style::of_bit(bit))],
+        Some(&bit) => vec![
+            name,
+            Line::of(&format!("brought {bit}"), Style::of_bit(bit)),
+        ],
         None => vec![name, Line::of("FAULTY", Style::Faulty)],
     }
 }
@@ -27,7 +30,9 @@ pub fn cell(run: &Run, place: usize, number: u32) -> Vec<Line> {
     match (faulty, correct) {
         (Some(faulty), _) => told(run, round, faulty),
         (_, Some(correct)) => {
-            let before = place.checked_sub(1).map(|i| &run.rounds[i].correct[correct]);
+            let before = place
+                .checked_sub(1)
+                .map(|i| &run.rounds[i].correct[correct]);
             seen(round, &round.correct[correct], before)
         }
         _ => Vec::new(),
@@ -39,10 +44,16 @@ fn seen(round: &Round, seen: &Seen, before: Option<&Seen>) -> Vec<Line> {
     let state = &seen.state;
     let decided_now = state.round == round.round && !state.undecided();
     let mut lines = match (seen.sent.is_empty(), state.undecided()) {
-        (false, _) => vec![Line::of(&short(&reading(&seen.sent, round.round)), Style::Plain)],
+        (false, _) => vec![Line::of(
+            &short(&reading(&seen.sent, round.round)),
+            Style::Plain,
+        )],
         (true, true) => return vec![Line::of("stuck", Style::Bad)],
         (true, false) if decided_now => {
-            vec![Line::of(&format!("DECIDED {}", state.decision), Style::Good)]
+            vec![Line::of(
+                &format!("DECIDED {}", state.decision),
+                Style::Good,
+            )]
         }
         (true, false) => vec![Line::of("quiet", Style::Faint)],
     };
@@ -80,7 +91,10 @@ fn told(run: &Run, round: &Round, faulty: usize) -> Vec<Line> {
     let groups = groups(run, round, faulty);
     let line = |(to, what): &(Vec<u32>, String)| match groups.len() {
         1 => Line::of(&format!("all: {}", short(what)), Style::Faulty),
-        _ => Line::of("≠", Style::Bad).and(&format!("{}: {}", receivers(to), short(what)), Style::Faulty),
+        _ => Line::of("≠", Style::Bad).and(
+            &format!("{}: {}", receivers(to), short(what)),
+            Style::Faulty,
+        ),
     };
     let mut lines: Vec<Line> = groups.iter().take(MOST_GROUPS).map(line).collect();
     if groups.len() > MOST_GROUPS {

@@ -1,6 +1,10 @@
-//! The words of a scenario's line, with their places, and how to take them one by one.
+//! The words of a scenario's line, with their places: how to take them one by one, and
+//! the numbers among them.
+
+use std::ops::RangeInclusive;
 
 use crate::mistake::Mistake;
+use crate::parse::Parsed;
 
 #[derive(Clone, Debug)]
 pub struct Token {
@@ -18,12 +22,18 @@ pub fn tokens(line: &str) -> Vec<Token> {
         match character {
             c if c.is_whitespace() || c.is_control() => open = false,
             ':' => {
-                all.push(Token { text: ":".into(), column });
+                all.push(Token {
+                    text: ":".into(),
+                    column,
+                });
                 open = false;
             }
             c if open => all.last_mut().expect("an open word").text.push(c),
             c => {
-                all.push(Token { text: c.into(), column });
+                all.push(Token {
+                    text: c.into(),
+                    column,
+                });
                 open = true;
             }
         }
@@ -99,6 +109,32 @@ impl<'a> Words<'a> {
         match self.peek() {
             Some(word) => format!("`{word}`"),
             None => "the end of the line".into(),
+        }
+    }
+}
+
+/// A number in digits.
+pub fn number(text: &str) -> Option<u32> {
+    let digits = text.bytes().all(|byte| byte.is_ascii_digit());
+    digits.then(|| text.parse().ok()).flatten()
+}
+
+/// A number, or `5-9` for all from 5 to 9.
+pub fn span(words: &Words, text: &str, allowed: &str) -> Parsed<RangeInclusive<u32>> {
+    let above_0 = |text: &str| number(text).filter(|&n| n > 0);
+    let ends = match text.split_once('-') {
+        Some((first, last)) => above_0(first).zip(above_0(last)),
+        None => above_0(text).map(|n| (n, n)),
+    };
+    match ends {
+        Some((first, last)) if first <= last => Ok(first..=last),
+        Some((first, last)) => {
+            let what = format!("{first} to {last} is backwards");
+            Err(words.at_last(what, allowed))
+        }
+        None => {
+            let what = format!("`{text}` is no number from 1 to 4294967295");
+            Err(words.at_last(what, allowed))
         }
     }
 }

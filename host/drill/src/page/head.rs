@@ -1,0 +1,98 @@
+//! The head of the page: the title, how it ended, who was on the line, what happened.
+
+use crate::controller::Rule;
+use crate::page::markup::{element, escaped, text};
+use crate::run::Run;
+use crate::story::story;
+use crate::verdict::{verdict, warning};
+use crate::words::named;
+
+/// The remarks in front of the scenario that say something.
+fn remarks<'a>(run: &'a Run) -> impl Iterator<Item = &'a str> {
+    let lines = run.scenario.heading.iter().map(String::as_str);
+    lines.filter(|line| !line.is_empty())
+}
+
+pub fn title<'a>(run: &'a Run) -> &'a str {
+    remarks(run).next().unwrap_or("A drill")
+}
+
+pub fn head(run: &Run) -> String {
+    let notes: String = remarks(run).skip(1).map(note).collect();
+    let line = text("p", &on_line(run));
+    let rule = match run.rule {
+        Rule::Engine => String::new(),
+        Rule::Printed => text("p", PRINTED),
+    };
+    let sentences: String = story(run).iter().map(|line| text("li", line)).collect();
+    let parts = [
+        text("h1", title(run)),
+        notes,
+        banner(run),
+        line,
+        rule,
+        text("h2", "What happened"),
+        element(r#"ul class="story""#, &sentences),
+    ];
+    element("header", &parts.concat())
+}
+
+const PRINTED: &str = "The correct ones stop by the published method's own rule: \
+                       when a king is named twice.";
+
+/// A remark; its first word stands out if it is a call to notice something.
+fn note(line: &str) -> String {
+    let inner = match line.strip_prefix("Notice:") {
+        Some(rest) => format!("<b>Notice:</b>{}", escaped(rest)),
+        None => escaped(line),
+    };
+    element(r#"p class="note""#, &inner)
+}
+
+/// How it ended, and the warning where nothing was promised.
+fn banner(run: &Run) -> String {
+    let verdict = verdict(run);
+    let (class, first, rest) = match verdict.text.split_once(": ") {
+        Some((first, rest)) if !verdict.agreed => ("bad", first, rest),
+        _ => ("good", "Agreed", verdict.text.as_str()),
+    };
+    let mut out = sign(class, first, rest);
+    if let Some(warning) = warning(run) {
+        let (first, rest) = warning.split_once(": ").unwrap_or(("", &warning));
+        out += &sign("warn", first, rest);
+    }
+    out
+}
+
+fn sign(class: &str, first: &str, rest: &str) -> String {
+    let shape = match class {
+        "good" => r#"<circle cx="12" cy="12" r="11"/><path d="M6 12.5l4 4 8-9"/>"#,
+        "bad" => r#"<circle cx="12" cy="12" r="11"/><path d="M7.5 7.5l9 9m0-9l-9 9"/>"#,
+        _ => r#"<path class="edge" d="M12 1l11 21H1z"/><path d="M12 9v6m0 3v1"/>"#,
+    };
+    let icon = format!(
+        r#"<svg class="icon" aria-hidden="true" width="24" height="24" viewBox="0 0 24 24">{shape}</svg>"#
+    );
+    let words = format!("<p><b>{}:</b> {}</p>", escaped(first), escaped(rest));
+    element(&format!(r#"div class="banner {class}""#), &(icon + &words))
+}
+
+/// Who was on the line.
+pub fn on_line(run: &Run) -> String {
+    let scenario = run.scenario;
+    let with = |bit: u8| -> Vec<u32> {
+        let all = scenario.correct.iter().filter(|(_, &input)| input == bit);
+        all.map(|(&number, _)| number).collect()
+    };
+    let brought = [1, 0].map(|bit| (bit, with(bit)));
+    let groups = brought.iter().filter(|(_, who)| !who.is_empty());
+    let inputs: Vec<String> =
+        groups.map(|(bit, who)| format!("{} brought {bit} in", named(who))).collect();
+    let faulty: Vec<u32> = scenario.faulty.iter().copied().collect();
+    let liars = match faulty.len() {
+        0 => "nobody is faulty".into(),
+        1 => format!("{} is faulty", faulty[0]),
+        _ => format!("{} are faulty", named(&faulty)),
+    };
+    format!("A line of {}: {}; {liars}.", scenario.size(), inputs.join(", "))
+}
