@@ -16,6 +16,8 @@ type Parsed<T> = Result<T, Mistake>;
 
 /// The scenario, or the mistakes of its text, at most one for each line.
 pub fn parse(text: &str) -> Result<Scenario, Vec<Mistake>> {
+    // Some editors put a mark in front of a text.
+    let text = text.trim_start_matches('\u{feff}');
     let mut scenario = Scenario {
         heading: heading(text),
         ..Scenario::default()

@@ -1,12 +1,16 @@
 //! Why a run ended as it did, in sentences: what the faulty ones did, from when on the
 //! correct ones were of one mind, and what brought it about.
 
+use std::cmp::Reverse;
 use std::collections::{BTreeMap, BTreeSet};
 
 use crate::controller::Rule;
-use crate::run::{Round, Run};
+use crate::run::{Round, Run, Seen};
 use crate::verdict::endings;
-use crate::words::{kind, named, numbers, phase, readings, times};
+use crate::words::{self, kind, named, phase, readings, times};
+
+/// The most faulty ones whose lies are told one by one.
+const MOST_LIARS: usize = 4;
 
 /// Groups of receivers that were told the same, each with what that was, in the order of
 /// the first receiver.
@@ -29,7 +33,7 @@ pub fn kings(run: &Run, phase: u32) -> BTreeMap<u32, Vec<u32>> {
     let Some(round) = run.rounds.get(2 + 3 * phase as usize) else {
         return kings;
     };
-    let now = |seen: &&crate::run::Seen| seen.state.round == round.round && seen.state.king != 0;
+    let now = |seen: &&Seen| seen.state.round == round.round && seen.state.king != 0;
     for seen in round.correct.iter().filter(now) {
         kings
             .entry(seen.state.king)
@@ -58,39 +62,54 @@ pub fn story(run: &Run) -> Vec<String> {
     lines
 }
 
-/// What each faulty one did: how often it told different things, and what of it was no frame.
+/// What the faulty ones did, the busiest liars first if there are many.
 fn lies(run: &Run) -> Vec<String> {
-    let lie = |(place, number): (usize, &u32)| {
-        let sent = run.rounds.len() - 1;
-        let told = run
-            .rounds
-            .iter()
-            .map(|round| (round, groups(run, round, place)));
-        let mut apart = told.filter(|(_, groups)| groups.len() > 1);
-        let told = match apart.next() {
-            None => format!("{number} told everybody the same in each round"),
-            Some((first, parts)) => format!(
-                "{number} told them different things in {} of {}, first in round {}: {}",
-                1 + apart.count(),
-                times(sent, "round"),
-                first.round,
-                parts_of(&parts)
-            ),
-        };
-        match defects(run, place).join(", ") {
-            none if none.is_empty() => format!("{told}."),
-            some => format!("{told}. Some got {some}."),
-        }
+    let all = run.scenario.faulty.iter().enumerate();
+    let mut lies: Vec<(usize, String)> = all.map(|(place, &n)| lie(run, place, n)).collect();
+    if lies.len() <= MOST_LIARS {
+        return lies.into_iter().map(|(_, line)| line).collect();
+    }
+    lies.sort_by_key(|(apart, _)| Reverse(*apart));
+    let others = lies.len() - MOST_LIARS;
+    let busiest = lies.into_iter().take(MOST_LIARS).map(|(_, line)| line);
+    let rest = format!(
+        "{} more lied no more than these.",
+        times(others, "faulty one")
+    );
+    busiest.chain([rest]).collect()
+}
+
+/// In how many rounds a faulty one told different things; the same with the first time and
+/// with what of it was no frame.
+fn lie(run: &Run, place: usize, number: u32) -> (usize, String) {
+    let told = run.rounds.iter();
+    let told = told.map(|round| (round, groups(run, round, place)));
+    let apart: Vec<_> = told.filter(|(_, groups)| groups.len() > 1).collect();
+    let told = match apart.first() {
+        None => format!("{number} told everybody the same in each round"),
+        Some((first, parts)) => format!(
+            "{number} told them different things in {} of {}, first in round {}: {}",
+            apart.len(),
+            times(run.rounds.len() - 1, "round"),
+            first.round,
+            parts_of(parts)
+        ),
     };
-    run.scenario.faulty.iter().enumerate().map(lie).collect()
+    let line = match defects(run, place).join(", ") {
+        none if none.is_empty() => format!("{told}."),
+        some => format!("{told}. Some got {some}."),
+    };
+    (apart.len(), line)
 }
 
 /// What the first few groups were told.
 fn parts_of(groups: &[(Vec<u32>, String)]) -> String {
     let first = groups.iter().take(3);
-    let parts: Vec<String> = first
-        .map(|(to, what)| format!("{what} to {}", numbers(to)))
-        .collect();
+    let part = |(to, what): &(Vec<u32>, String)| {
+        let (to, what) = (words::short_numbers(to), words::short(what));
+        format!("{what} to {to}")
+    };
+    let parts: Vec<String> = first.map(part).collect();
     match groups.len() > 3 {
         true => format!("{}; and so on", parts.join("; ")),
         false => parts.join("; "),
@@ -137,9 +156,9 @@ fn unity(run: &Run) -> Vec<String> {
     };
     if run.scenario.is_promised() {
         lines.push(format!(
-            "Once all correct ones hold {bit}, two thirds of what each hears says so in every \
-             round. So each proposes {bit}, is strong for it, and follows no king against it: \
-             fewer than a third cannot turn that."
+            "Once all correct ones hold {bit}, two thirds and more of those whom each hears say so \
+             in every round. So each proposes {bit}, is strong for it, and follows no king \
+             against it: fewer than a third cannot turn that."
         ));
     }
     lines
@@ -157,7 +176,8 @@ fn came_by(run: &Run, round: &Round) -> String {
         }
     }
     if kind(round.round) == "turn" {
-        let who: Vec<u32> = from.into_values().flatten().collect();
+        let mut who: Vec<u32> = from.into_values().flatten().collect();
+        who.sort_unstable();
         return format!(
             "{} heard a third propose it, and of the other bit less",
             named(&who)

@@ -1,6 +1,6 @@
 //! How a run ended, held against document 01's claims.
 
-use crate::run::Run;
+use crate::run::{Run, Seen};
 use crate::words::named;
 
 pub struct Verdict {
@@ -22,7 +22,7 @@ pub struct Ending {
 
 pub fn endings(run: &Run) -> Vec<Ending> {
     let last = run.rounds.last().expect("a run has a round");
-    let ending = |seen: &crate::run::Seen| Ending {
+    let ending = |seen: &Seen| Ending {
         number: seen.state.number,
         decision: seen.state.decision,
         round: seen.state.round,

@@ -27,8 +27,34 @@ fn run((first, last): (u32, u32)) -> String {
     }
 }
 
-/// How many numbers such a text has.
-pub fn count(text: &str) -> usize {
+/// Between the frames of one that sent several.
+const AND: &str = " and ";
+/// From how many characters on numbers are shown by their count.
+const LONG: usize = 40;
+
+/// The same, or only how many if they are long.
+pub fn short_numbers(list: &[u32]) -> String {
+    let text = numbers(list);
+    match text.len() > LONG {
+        true => format!("{} of them", list.len()),
+        false => text,
+    }
+}
+
+/// What is told, with long lists by their counts.
+pub fn short(words: &str) -> String {
+    let short = |saying: &str| match saying.split_once("lists ") {
+        Some((front, list)) if list.len() > LONG => {
+            format!("{front}lists {} numbers", count(list))
+        }
+        _ => saying.into(),
+    };
+    let each: Vec<String> = words.split(AND).map(short).collect();
+    each.join(AND)
+}
+
+/// How many numbers there are in a text of them.
+fn count(text: &str) -> usize {
     let run = |word: &str| {
         let (first, last) = word.split_once('-').unwrap_or((word, word));
         let end = |text: &str| text.parse::<u32>().unwrap_or(0);
@@ -99,7 +125,7 @@ pub fn readings(frames: &[Vec<u8>], round: u32) -> String {
     let each: Vec<String> = frames.iter().map(|bytes| reading(bytes, round)).collect();
     match each.is_empty() {
         true => "silent".into(),
-        false => each.join(" and "),
+        false => each.join(AND),
     }
 }
 

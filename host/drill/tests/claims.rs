@@ -204,3 +204,21 @@ fn the_worst_is_kept() {
     assert!(!verdict(&run(&kept, Rule::Engine).expect("a run")).agreed);
     assert!(kept.heading[0].contains("BROKEN"), "{:?}", kept.heading);
 }
+
+/// Where a third is faulty, made-up numbers come to a third of the lists: over 64 of them get
+/// the tray refused under 8. Whoever refuses its tray is stuck, and that breaks the line.
+#[test]
+fn a_refused_tray_is_shown() {
+    let text =
+        "line 5=0 7=1\nfaulty 3\nround 1 3 plays along\nround 2 3 tells all: lists 100-163\n";
+    let scenario = drill::parse::parse(text).expect("a scenario");
+    let run = run(&scenario, Rule::Engine).expect("a run");
+    assert!(run.rounds[1]
+        .correct
+        .iter()
+        .all(|seen| seen.refused == Some(8)));
+    assert_eq!(verdict(&run).text, "BROKEN: 5 and 7 never decided");
+    let shown = drill::table::shown(&run, 100, false);
+    assert!(shown.contains("tray refused 8") && shown.contains("stuck"));
+    assert!(shown.contains("- 5 refused its tray of round 2 under 8, and is stuck.\n"));
+}

@@ -39,8 +39,6 @@ fn cell(plan: &Plan, lane: &Lane, place: usize, round: &Round, x: u32) -> String
     let seen = &round.correct[place];
     let before = bit_before(plan, place, round.round);
     let (bit, decided) = (seen.state.bit, !seen.state.undecided());
-    // The corners say the bit as well: 0 is round, 1 is not.
-    let corner = if bit == 0 { 13 } else { 3 };
     let mut out = match decided {
         true => format!(
             r#"<g class="b{bit} end" data-decided="{bit}" data-round="{}""#,
@@ -50,13 +48,10 @@ fn cell(plan: &Plan, lane: &Lane, place: usize, round: &Round, x: u32) -> String
     };
     let _ = write!(out, r#" transform="translate({x})">"#);
     out += &text("title", &spoken(lane.number, seen, round.round, before));
-    let _ = write!(
-        out,
-        r#"<rect y="{ABOVE}" width="{BOX}" height="{TALL}" rx="{corner}"/>"#
-    );
+    let _ = write!(out, r##"<use href="#box{bit}"/>"##);
     out += &match decided {
         true => format!(
-            "<use href=\"#tick\" x=\"8\" y=\"11\"/>{}",
+            "<use class=\"tick\" href=\"#tick\" x=\"8\" y=\"11\"/>{}",
             text(r#"text x="24" y="22""#, &format!("decided {bit}"))
         ),
         false => text(

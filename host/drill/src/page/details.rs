@@ -100,7 +100,7 @@ fn faulty(plan: &Plan, place: usize, round: &Round) -> String {
     let groups = plan.groups(round, place);
     let told: Vec<String> = groups
         .iter()
-        .map(|group| format!("<b>{}</b> to {}", escaped(&group.words), numbers(&group.to)))
+        .map(|group| format!("{} to {}", escaped(&group.words), numbers(&group.to)))
         .collect();
     match groups.len() {
         0 => "nobody listens any more".into(),

@@ -3,12 +3,12 @@
 use std::fmt::Write;
 
 use crate::page::markup::{element, text};
-use crate::page::plan::{Lane, Plan, Stage, Who, HEAD};
+use crate::page::plan::{Lane, Plan, Stage, Who, ABOVE, BOX, HEAD, PART, TALL};
 use crate::page::{correct, short, told};
 use crate::story::kings;
 use crate::words::{kind, named, numbers};
 
-/// What all drawings use: signs, the ground with the faulty lanes marked, and the names.
+/// What all drawings use: boxes, signs, the ground with the faulty lanes marked, the names.
 pub fn shared(plan: &Plan) -> String {
     let ground = element(r#"g id="ground""#, &ground(plan));
     let names: String = plan.lanes.iter().map(|lane| name(plan, lane)).collect();
@@ -17,7 +17,16 @@ pub fn shared(plan: &Plan) -> String {
         true => told::markers(),
         false => String::new(),
     };
-    element("defs", &format!("{SIGNS}{markers}{ground}{names}"))
+    element("defs", &format!("{}{SIGNS}{markers}{ground}{names}", boxes()))
+}
+
+/// The boxes of both bits, whose corners say the bit as well as the colour, and the part
+/// of a faulty one's box.
+fn boxes() -> String {
+    let shape = |id: &str, y: u32, height: u32, corner: u32| {
+        format!(r#"<rect id="{id}" y="{y}" width="{BOX}" height="{height}" rx="{corner}"/>"#)
+    };
+    shape("box0", ABOVE, TALL, 13) + &shape("box1", ABOVE, TALL, 3) + &shape("part", 0, PART, 7)
 }
 
 const SIGNS: &str = concat!(

@@ -65,7 +65,7 @@ const SIGNS: [(&str, &str); 9] = [
         "The king of the phase: its opinion counts. \"by 4 6\" below it: king for these only.",
     ),
     (
-        r##"<g class="b0 end"><rect x="2" y="3" width="96" height="30" rx="13"/><use href="#tick" x="12" y="12"/><text x="29" y="22">decided</text></g>"##,
+        r##"<g class="b0 end"><rect x="2" y="3" width="96" height="30" rx="13"/><use class="tick" href="#tick" x="12" y="12"/><text x="29" y="22">decided</text></g>"##,
         "Decided, for good.",
     ),
     (

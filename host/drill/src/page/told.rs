@@ -11,12 +11,13 @@ use crate::page::tone::Tone;
 use crate::run::Round;
 use crate::words::numbers;
 
-/// The room for text in a part; the first one has the mark in its corner.
-const ROOM: u32 = BOX - 22;
+/// The room for text in a part, and what the mark in the corner of the first one takes.
+const ROOM: u32 = BOX - 14;
+const MARK: u32 = 8;
 /// The most groups of a tooltip.
 const MOST_SPOKEN: usize = 12;
-/// The same on a line that is too long for words, for the sake of the page's size.
-const FEWER_SPOKEN: usize = 6;
+/// The same on a long line, where a page has thousands of them.
+const FEWER_SPOKEN: usize = 4;
 
 pub fn cells(plan: &Plan, lane: &Lane, stage: &Stage, place: usize) -> String {
     let columns = stage.rounds.iter().enumerate();
@@ -47,7 +48,7 @@ fn cell(plan: &Plan, lane: &Lane, place: usize, round: &Round, x: u32) -> String
     );
     inner += &parts(groups, top);
     if groups.len() > 1 {
-        let _ = write!(inner, r##"<use href="#apart" x="{BOX}" y="{top}"/>"##);
+        let _ = write!(inner, r##"<use href="#apart" x="{BOX}" y="{}"/>"##, top + 4);
     }
     if plan.live {
         inner += &lines(plan, lane, groups, top);
@@ -61,11 +62,13 @@ fn parts(groups: &[Group], top: u32) -> String {
     let mut out = String::new();
     for (place, group) in groups.iter().take(MOST_PARTS).enumerate() {
         let y = part_top(top, place);
+        let marked = groups.len() > 1 && place == 0;
+        let room = ROOM - if marked { MARK } else { 0 };
         let inner = format!(
-            r#"<rect y="{y}" width="{BOX}" height="{PART}" rx="7"/>{}{}"#,
+            r##"<use href="#part" y="{y}"/>{}{}"##,
             text(
                 &format!(r#"text x="8" y="{}""#, y + 15),
-                &short::words(&group.words, 12, ROOM)
+                &short::words(&group.words, 12, room)
             ),
             text(
                 &format!(r#"text class="m" x="8" y="{}""#, y + 28),
@@ -135,7 +138,7 @@ fn lines(plan: &Plan, lane: &Lane, groups: &[Group], top: u32) -> String {
         };
         out += &element(&format!(r#"g class="{}""#, tone.class()), &inner);
     }
-    element(r#"g class="lines" aria-hidden="true""#, &out)
+    element(r#"g class="lines""#, &out)
 }
 
 /// Where the lines of a tone end, seen from the faulty one's lane, with what was told.
@@ -143,7 +146,7 @@ fn ends<'a>(plan: &Plan, lane: &Lane, groups: &'a [Group], of: Tone) -> Vec<(i32
     let mut ends = Vec::new();
     for group in groups.iter().filter(|group| tone(group) == of) {
         let lanes = group.to.iter().filter_map(|&number| plan.lane(number));
-        let y = |to: &Lane| to.top as i32 - lane.top as i32 + ABOVE as i32 - 2;
+        let y = |to: &Lane| to.top as i32 - lane.top as i32 + ABOVE as i32 - 4;
         ends.extend(lanes.map(|to| (y(to), group.words.as_str())));
     }
     ends.sort_unstable();
@@ -157,7 +160,9 @@ fn starts(groups: &[Group], top: u32, of: Tone) -> Vec<i32> {
         true => part_top(top, place) + PART / 2,
         false => part_top(top, MOST_PARTS) + MORE / 2 - GAP,
     };
-    places.map(start).map(|y| y as i32).collect()
+    let mut starts: Vec<i32> = places.map(start).map(|y| y as i32).collect();
+    starts.dedup();
+    starts
 }
 
 /// From the parts to the trunk of their tone, and along it to the nearest end.
@@ -188,8 +193,9 @@ fn with_words(tone: Tone, ends: &[(i32, &str)]) -> String {
 }
 
 fn end_words(y: i32, words: &str) -> String {
-    let words = short::words(words, 11, BOX - 4);
-    let wide = short::width(&words, 11) + 12;
+    // They are bold, and so a little wider.
+    let words = short::words(words, 12, BOX - 4);
+    let wide = short::width(&words, 12) + 12;
     format!(
         r#"<rect x="-1" y="{}" width="{wide}" height="16" rx="8"/><text x="5" y="{}">{}</text>"#,
         y - 8,
@@ -202,7 +208,7 @@ fn end_words(y: i32, words: &str) -> String {
 fn with_signs(tone: Tone, ends: &[(i32, &str)]) -> String {
     let mut at = ends[0].0;
     let mut path = format!("M-{} {at}", trunk(tone));
-    for (y, _) in ends {
+    for (y, _) in &ends[1..] {
         let _ = write!(path, "v{}", y - at);
         at = *y;
     }

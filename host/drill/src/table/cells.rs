@@ -3,12 +3,10 @@
 use crate::run::{Round, Run, Seen};
 use crate::story::groups;
 use crate::table::layout::{Line, Style};
-use crate::words::{self, numbers, reading};
+use crate::words::{self, reading};
 
 /// The most groups of receivers that are told apart in a cell.
 const MOST_GROUPS: usize = 4;
-/// From how many characters on a list is shown by its count.
-const LONG: usize = 40;
 
 /// The column's head.
 pub fn head(run: &Run, number: u32) -> Vec<Line> {
@@ -45,7 +43,7 @@ fn seen(round: &Round, seen: &Seen, before: Option<&Seen>) -> Vec<Line> {
     let decided_now = state.round == round.round && !state.undecided();
     let mut lines = match (seen.sent.is_empty(), state.undecided()) {
         (false, _) => vec![Line::of(
-            &short(&reading(&seen.sent, round.round)),
+            &words::short(&reading(&seen.sent, round.round)),
             Style::Plain,
         )],
         (true, true) => return vec![Line::of("stuck", Style::Bad)],
@@ -90,9 +88,9 @@ fn held(seen: &Seen, before: Option<&Seen>) -> Line {
 fn told(run: &Run, round: &Round, faulty: usize) -> Vec<Line> {
     let groups = groups(run, round, faulty);
     let line = |(to, what): &(Vec<u32>, String)| match groups.len() {
-        1 => Line::of(&format!("all: {}", short(what)), Style::Faulty),
+        1 => Line::of(&format!("all: {}", words::short(what)), Style::Faulty),
         _ => Line::of("≠", Style::Bad).and(
-            &format!("{}: {}", receivers(to), short(what)),
+            &format!("{}: {}", words::short_numbers(to), words::short(what)),
             Style::Faulty,
         ),
     };
@@ -102,22 +100,4 @@ fn told(run: &Run, round: &Round, faulty: usize) -> Vec<Line> {
         lines.push(Line::of("≠", Style::Bad).and(&more, Style::Faulty));
     }
     lines
-}
-
-fn receivers(to: &[u32]) -> String {
-    let text = numbers(to);
-    match text.len() > LONG {
-        true => format!("{} of them", to.len()),
-        false => text,
-    }
-}
-
-/// Words with a long list by its count.
-fn short(words: &str) -> String {
-    match words.split_once("lists ") {
-        Some((front, list)) if list.len() > LONG => {
-            format!("{front}lists {} numbers", words::count(list))
-        }
-        _ => words.into(),
-    }
 }
