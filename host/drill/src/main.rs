@@ -13,7 +13,7 @@ use drill::arguments::{Arguments, USAGE};
 use drill::run::{run, Run};
 use drill::scenario::Scenario;
 use drill::verdict::verdict;
-use drill::{bundled, mistake, parse, table, worst, write};
+use drill::{bundled, mistake, page, parse, table, worst, write};
 
 /// The width where the output is no terminal.
 const WIDTH: usize = 100;
@@ -47,7 +47,8 @@ fn drill(words: &[String]) -> Result<bool, String> {
     save(&run, &text, arguments.page.as_deref())?;
     print(&table::shown(&run, width(&arguments), has_colour()));
     if words.is_empty() {
-        print(&format!("\nThat was the scenario {name}. What else there is:\n\n{USAGE}\n{}", bundled::listing()));
+        let more = "What else there is";
+        print(&format!("\n{more}:\n\n{USAGE}\n{}", bundled::listing()));
     }
     Ok(verdict(&run).agreed)
 }
@@ -70,12 +71,17 @@ fn text(name: &str) -> Result<String, String> {
     if name == "-" {
         let mut text = String::new();
         let read = io::stdin().read_to_string(&mut text);
-        return read.map(|_| text).map_err(|error| format!("standard input: {error}\n"));
+        return read
+            .map(|_| text)
+            .map_err(|error| format!("standard input: {error}\n"));
     }
     match bundled::text(name) {
         Some(text) => Ok(text.into()),
         None => fs::read_to_string(name).map_err(|error| {
-            format!("{name}: {error}\nThese scenarios come with the drill:\n{}", bundled::listing())
+            format!(
+                "{name}: {error}\nThese scenarios come with the drill:\n{}",
+                bundled::listing()
+            )
         }),
     }
 }
@@ -84,8 +90,8 @@ fn text(name: &str) -> Result<String, String> {
 fn save(run: &Run, text: &str, file: Option<&str>) -> Result<(), String> {
     let Some(file) = file else { return Ok(()) };
     let content = match file.ends_with(".svg") {
-        true => format!("{}", run.rounds.len()),
-        false => text.to_string(),
+        true => page::picture(run),
+        false => page::page(run, text),
     };
     fs::write(file, content).map_err(|error| format!("{file}: {error}\n"))
 }
@@ -103,14 +109,29 @@ fn has_colour() -> bool {
 /// The width asked for, or the terminal's.
 fn width(arguments: &Arguments) -> usize {
     let told = || env::var("COLUMNS").ok()?.parse().ok();
-    let terminal = || if io::stdout().is_terminal() { told().or_else(asked) } else { None };
+    let terminal = || {
+        if io::stdout().is_terminal() {
+            told().or_else(asked)
+        } else {
+            None
+        }
+    };
     arguments.width.or_else(terminal).unwrap_or(WIDTH)
 }
 
 /// What `stty` says of the terminal's width.
 fn asked() -> Option<usize> {
     let mut stty = Command::new("stty");
-    let size = stty.arg("size").stdin(Stdio::inherit()).stderr(Stdio::null()).output().ok()?;
+    let size = stty
+        .arg("size")
+        .stdin(Stdio::inherit())
+        .stderr(Stdio::null())
+        .output()
+        .ok()?;
     let size = String::from_utf8(size.stdout).ok()?;
-    size.split_whitespace().nth(1)?.parse().ok().filter(|&width| width > 0)
+    size.split_whitespace()
+        .nth(1)?
+        .parse()
+        .ok()
+        .filter(|&width| width > 0)
 }

@@ -9,6 +9,7 @@ mod details;
 mod head;
 mod lanes;
 mod legend;
+mod lines;
 mod markup;
 mod picture;
 mod plan;
@@ -50,7 +51,10 @@ pub fn page(run: &Run, scenario: &str) -> String {
 
 fn lanes(plan: &Plan) -> String {
     let heading = text("h2", "Round by round");
-    let skip = text(r##"a class="skip" href="#words""##, "Go on to the same in words");
+    let skip = text(
+        r##"a class="skip" href="#words""##,
+        "Go on to the same in words",
+    );
     element("section", &(heading + &skip + &lanes::area(plan)))
 }
 

@@ -73,8 +73,8 @@ fn lies(run: &Run) -> Vec<String> {
     let others = lies.len() - MOST_LIARS;
     let busiest = lies.into_iter().take(MOST_LIARS).map(|(_, line)| line);
     let rest = format!(
-        "{} more lied no more than these.",
-        times(others, "faulty one")
+        "{} more told them different things no more often.",
+        times(others, "card")
     );
     busiest.chain([rest]).collect()
 }
@@ -86,9 +86,9 @@ fn lie(run: &Run, place: usize, number: u32) -> (usize, String) {
     let told = told.map(|round| (round, groups(run, round, place)));
     let apart: Vec<_> = told.filter(|(_, groups)| groups.len() > 1).collect();
     let told = match apart.first() {
-        None => format!("{number} told everybody the same in each round"),
+        None => format!("Card {number} told everybody the same in each round"),
         Some((first, parts)) => format!(
-            "{number} told them different things in {} of {}, first in round {}: {}",
+            "Card {number} told them different things in {} of {}; in round {}, the first of these, {}",
             apart.len(),
             times(run.rounds.len() - 1, "round"),
             first.round,
@@ -106,8 +106,7 @@ fn lie(run: &Run, place: usize, number: u32) -> (usize, String) {
 fn parts_of(groups: &[(Vec<u32>, String)]) -> String {
     let first = groups.iter().take(3);
     let part = |(to, what): &(Vec<u32>, String)| {
-        let (to, what) = (words::short_numbers(to), words::short(what));
-        format!("{what} to {to}")
+        format!("{} to {}", words::short(what), words::short_named(to))
     };
     let parts: Vec<String> = first.map(part).collect();
     match groups.len() > 3 {

@@ -98,8 +98,10 @@ fn apart(zero: &[u32], one: &[u32], none: &[u32]) -> String {
 /// What is said in front where too many are faulty; nothing if the promise holds.
 pub fn warning(run: &Run) -> Option<String> {
     let (faulty, size) = (run.scenario.faulty.len(), run.scenario.size());
+    let are = if faulty == 1 { "is" } else { "are" };
     let warning = format!(
-        "WARNING: {faulty} of {size} are faulty, a third or more. Nothing is promised on this line."
+        "WARNING: {faulty} of {size} {are} faulty, a third or more. \
+         Nothing is promised on this line."
     );
     (!run.scenario.is_promised()).then_some(warning)
 }

@@ -34,7 +34,15 @@ const LONG: usize = 40;
 
 /// The same, or only how many if they are long.
 pub fn short_numbers(list: &[u32]) -> String {
-    let text = numbers(list);
+    short_of(list, numbers(list))
+}
+
+/// Numbers in a sentence, or only how many.
+pub fn short_named(list: &[u32]) -> String {
+    short_of(list, named(list))
+}
+
+fn short_of(list: &[u32], text: String) -> String {
     match text.len() > LONG {
         true => format!("{} of them", list.len()),
         false => text,

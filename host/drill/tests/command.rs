@@ -71,7 +71,7 @@ fn a_broken_line_ends_with_1() {
     let output = drill(&["line-of-three"]);
     assert_eq!(output.status.code(), BROKEN);
     let printed = out(&output);
-    assert!(printed.contains("WARNING: 1 of 3 are faulty, a third or more. Nothing is promised"));
+    assert!(printed.contains("WARNING: 1 of 3 is faulty, a third or more. Nothing is promised"));
     assert!(printed.contains("\nBROKEN: 5 decided 0, 7 decided 1\n"));
     let output = drill(&["--rule", "printed", "last-trial"]);
     assert_eq!(output.status.code(), BROKEN);

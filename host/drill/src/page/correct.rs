@@ -3,7 +3,7 @@
 use std::fmt::Write;
 
 use crate::page::markup::text;
-use crate::page::plan::{Lane, Plan, Stage, ABOVE, BOX, GUTTER, PITCH, TALL};
+use crate::page::plan::{Lane, Plan, Stage, BOX, GUTTER, PITCH};
 use crate::page::short;
 use crate::run::{Round, Seen};
 use crate::words::{numbers, reading};
@@ -16,7 +16,7 @@ pub fn cells(plan: &Plan, lane: &Lane, stage: &Stage, place: usize) -> String {
     for (column, round) in stage.rounds.iter().enumerate() {
         let (seen, x) = (&round.correct[place], stage.column(column));
         out += &match is_quiet(seen, round.round) {
-            true => quiet(seen, x),
+            true => quiet(lane, seen, x),
             false => cell(plan, lane, place, round, x),
         };
     }
@@ -29,9 +29,13 @@ pub fn is_quiet(seen: &Seen, round: u32) -> bool {
 }
 
 /// A thin line; a broken one if it is stuck.
-fn quiet(seen: &Seen, x: u32) -> String {
-    let class = if seen.state.undecided() { "stuck" } else { "quiet" };
-    let (left, middle) = (x - GUTTER, ABOVE + TALL / 2);
+fn quiet(lane: &Lane, seen: &Seen, x: u32) -> String {
+    let class = if seen.state.undecided() {
+        "stuck"
+    } else {
+        "quiet"
+    };
+    let (left, middle) = (x - GUTTER, lane.middle());
     format!(r#"<path class="{class}" d="M{left} {middle}h{PITCH}"/>"#)
 }
 
@@ -60,7 +64,10 @@ fn cell(plan: &Plan, lane: &Lane, place: usize, round: &Round, x: u32) -> String
         ),
     };
     out += &match before {
-        Some(before) => text(r#"text class="m turned" x="8" y="38""#, &format!("bit {before}→{bit}")),
+        Some(before) => text(
+            r#"text class="m turned" x="8" y="38""#,
+            &format!("bit {before}→{bit}"),
+        ),
         None => text(r#"text class="m" x="8" y="38""#, &format!("bit {bit}")),
     };
     out + &tag(seen) + "</g>"
@@ -71,7 +78,10 @@ fn tag(seen: &Seen) -> String {
     let words = match (seen.refused, seen.junk.is_empty()) {
         (Some(refusal), _) => format!("stuck, refused {refusal}"),
         (None, false) => short::fitting(
-            [format!("refused {}", listed(&seen.junk)), format!("refused {} times", seen.junk.len())],
+            [
+                format!("refused {}", listed(&seen.junk)),
+                format!("refused {} times", seen.junk.len()),
+            ],
             11,
             BOX,
         ),
@@ -105,7 +115,11 @@ pub fn listed(refusals: &[u8]) -> String {
 fn spoken(number: u32, seen: &Seen, round: u32, before: Option<u8>) -> String {
     let state = &seen.state;
     let mut out = match state.undecided() {
-        true => format!("{number} in round {round} sends {}; bit {}", sent(seen, round), state.bit),
+        true => format!(
+            "{number} in round {round} sends {}; bit {}",
+            sent(seen, round),
+            state.bit
+        ),
         false => format!("{number} in round {round} decides {}", state.decision),
     };
     if let Some(before) = before {

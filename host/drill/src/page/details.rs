@@ -12,7 +12,11 @@ use crate::words::{kind, numbers};
 const MOST_OPEN: usize = 8;
 
 pub fn details(plan: &Plan) -> String {
-    let tables: String = plan.stages().iter().map(|stage| folded(plan, stage)).collect();
+    let tables: String = plan
+        .stages()
+        .iter()
+        .map(|stage| folded(plan, stage))
+        .collect();
     let heading = text(r#"h2 id="words""#, "The same in words");
     element("section", &(heading + &tables))
 }
@@ -23,32 +27,41 @@ fn folded(plan: &Plan, stage: &Stage) -> String {
         false => r#"details open="""#,
     };
     let name = stage.spoken();
-    let scroll = format!(r#"div class="scroll" role="region" aria-label="{name}, in words" tabindex="0""#);
-    element(open, &(text("summary", &name) + &element(&scroll, &table(plan, stage))))
+    let scroll =
+        format!(r#"div class="scroll" role="region" aria-label="{name}, in words" tabindex="0""#);
+    element(
+        open,
+        &(text("summary", &name) + &element(&scroll, &table(plan, stage))),
+    )
 }
 
 fn table(plan: &Plan, stage: &Stage) -> String {
-    let caption = text("caption", &format!("{}: who sent and held what", stage.spoken()));
+    let caption = text(
+        "caption",
+        &format!("{}: who sent and held what", stage.spoken()),
+    );
     let mut heads = text(r#"th scope="col""#, "Controller");
     for round in stage.rounds {
         let name = format!("Round {}, {}", round.round, kind(round.round));
         heads += &text(r#"th scope="col""#, &name);
     }
-    let rows: String = plan.lanes.iter().map(|lane| row(plan, lane, stage)).collect();
+    let rows: String = plan
+        .lanes
+        .iter()
+        .map(|lane| row(plan, lane, stage))
+        .collect();
     let head = element("thead", &element("tr", &heads));
     element("table", &(caption + &head + &element("tbody", &rows)))
 }
 
 fn row(plan: &Plan, lane: &Lane, stage: &Stage) -> String {
     let (name, cell): (String, &dyn Fn(&Round) -> String) = match lane.who {
-        Who::Correct(place) => (
-            lane.number.to_string(),
-            &move |round| correct(plan, place, round),
-        ),
-        Who::Faulty(place) => (
-            format!("{}, faulty", lane.number),
-            &move |round| faulty(plan, place, round),
-        ),
+        Who::Correct(place) => (lane.number.to_string(), &move |round| {
+            correct(plan, place, round)
+        }),
+        Who::Faulty(place) => (format!("{}, faulty", lane.number), &move |round| {
+            faulty(plan, place, round)
+        }),
     };
     let mut cells = text(r#"th scope="row""#, &name);
     for round in stage.rounds {
@@ -77,7 +90,11 @@ fn correct(plan: &Plan, place: usize, round: &Round) -> String {
     let before = plan.run.rounds.get((round.round as usize).wrapping_sub(2));
     let before = before.map(|round| &round.correct[place].state);
     out += &list("heard", &state.heard, before.map(|state| &state.heard));
-    out += &list("candidates", &state.candidates, before.map(|state| &state.candidates));
+    out += &list(
+        "candidates",
+        &state.candidates,
+        before.map(|state| &state.candidates),
+    );
     if !seen.junk.is_empty() {
         let _ = write!(out, "<br/>refused junk under {}", listed(&seen.junk));
     }

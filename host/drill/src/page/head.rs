@@ -24,7 +24,14 @@ pub fn head(run: &Run) -> String {
         Rule::Engine => String::new(),
         Rule::Printed => text("p", PRINTED),
     };
-    let sentences: String = story(run).iter().map(|line| text("li", line)).collect();
+    let story = story(run);
+    let sentences: String = story.iter().map(|line| text("li", line)).collect();
+    // Many faulty ones make many sentences, which are set in columns.
+    let class = if story.len() > 10 {
+        "story many"
+    } else {
+        "story"
+    };
     let parts = [
         text("h1", title(run)),
         notes,
@@ -32,7 +39,7 @@ pub fn head(run: &Run) -> String {
         line,
         rule,
         text("h2", "What happened"),
-        element(r#"ul class="story""#, &sentences),
+        element(&format!(r#"ul class="{class}""#), &sentences),
     ];
     element("header", &parts.concat())
 }
@@ -70,9 +77,8 @@ fn sign(class: &str, first: &str, rest: &str) -> String {
         "bad" => r#"<circle cx="12" cy="12" r="11"/><path d="M7.5 7.5l9 9m0-9l-9 9"/>"#,
         _ => r#"<path class="edge" d="M12 1l11 21H1z"/><path d="M12 9v6m0 3v1"/>"#,
     };
-    let icon = format!(
-        r#"<svg class="icon" aria-hidden="true" width="24" height="24" viewBox="0 0 24 24">{shape}</svg>"#
-    );
+    let icon = r#"svg class="icon" aria-hidden="true" width="24" height="24" viewBox="0 0 24 24""#;
+    let icon = element(icon, shape);
     let words = format!("<p><b>{}:</b> {}</p>", escaped(first), escaped(rest));
     element(&format!(r#"div class="banner {class}""#), &(icon + &words))
 }
@@ -86,13 +92,18 @@ pub fn on_line(run: &Run) -> String {
     };
     let brought = [1, 0].map(|bit| (bit, with(bit)));
     let groups = brought.iter().filter(|(_, who)| !who.is_empty());
-    let inputs: Vec<String> =
-        groups.map(|(bit, who)| format!("{} brought {bit} in", named(who))).collect();
+    let inputs: Vec<String> = groups
+        .map(|(bit, who)| format!("{} brought {bit} in", named(who)))
+        .collect();
     let faulty: Vec<u32> = scenario.faulty.iter().copied().collect();
     let liars = match faulty.len() {
         0 => "nobody is faulty".into(),
         1 => format!("{} is faulty", faulty[0]),
         _ => format!("{} are faulty", named(&faulty)),
     };
-    format!("A line of {}: {}; {liars}.", scenario.size(), inputs.join(", "))
+    format!(
+        "A line of {}: {}; {liars}.",
+        scenario.size(),
+        inputs.join(", ")
+    )
 }

@@ -3,8 +3,8 @@
 use std::fmt::Write;
 
 use crate::page::markup::{element, text};
-use crate::page::plan::{Lane, Plan, Stage, Who, ABOVE, BOX, HEAD, PART, TALL};
-use crate::page::{correct, short, told};
+use crate::page::plan::{Lane, Plan, Stage, Who, ABOVE, BOX, EDGE, HEAD, PART, TALL};
+use crate::page::{correct, lines, short, told};
 use crate::story::kings;
 use crate::words::{kind, named, numbers};
 
@@ -14,10 +14,13 @@ pub fn shared(plan: &Plan) -> String {
     let names: String = plan.lanes.iter().map(|lane| name(plan, lane)).collect();
     let names = element(r#"g id="names""#, &names);
     let markers = match plan.live && !plan.has_words() {
-        true => told::markers(),
+        true => lines::markers(),
         false => String::new(),
     };
-    element("defs", &format!("{}{SIGNS}{markers}{ground}{names}", boxes()))
+    element(
+        "defs",
+        &format!("{}{SIGNS}{markers}{ground}{names}", boxes()),
+    )
 }
 
 /// The boxes of both bits, whose corners say the bit as well as the colour, and the part
@@ -42,20 +45,23 @@ const SIGNS: &str = concat!(
 fn ground(plan: &Plan) -> String {
     let mut out = String::new();
     for lane in &plan.lanes {
-        let (top, height) = (lane.top, lane.height);
+        let bottom = lane.top + lane.height;
         if let Who::Faulty(_) = lane.who {
+            // That of the first lane reaches up to the heading.
+            let top = if lane.top == EDGE { 0 } else { lane.top };
+            let height = bottom - top;
             let _ = write!(
                 out,
                 r#"<rect class="lying" y="{top}" width="600" height="{height}"/>"#
             );
         }
-        let _ = write!(out, r#"<path class="rule" d="M0 {}h600"/>"#, top + height);
+        let _ = write!(out, r#"<path class="rule" d="M0 {bottom}h600"/>"#);
     }
     out
 }
 
 fn name(plan: &Plan, lane: &Lane) -> String {
-    let middle = lane.top + lane.height / 2;
+    let middle = lane.top + lane.middle();
     let (class, words) = match lane.who {
         Who::Correct(_) => {
             let bit = plan.run.scenario.correct[&lane.number];
@@ -66,7 +72,10 @@ fn name(plan: &Plan, lane: &Lane) -> String {
     text(
         &format!(r#"text class="number" x="12" y="{}""#, middle - 2),
         &lane.number.to_string(),
-    ) + &text(&format!(r#"text class="{class}" x="12" y="{}""#, middle + 14), &words)
+    ) + &text(
+        &format!(r#"text class="{class}" x="12" y="{}""#, middle + 14),
+        &words,
+    )
 }
 
 /// The heading of a stage: its name, its king, and its rounds.
@@ -108,7 +117,10 @@ fn kings_words(plan: &Plan, phase: u32, room: u32) -> String {
 /// What stands above the names.
 pub fn corner(plan: &Plan) -> String {
     let x = plan.names - 8;
-    text(&format!(r#"text class="soft corner" x="{x}" y="43""#), "round")
+    text(
+        &format!(r#"text class="soft corner" x="{x}" y="43""#),
+        "round",
+    )
 }
 
 /// The lanes of a stage, below its heading. Those of faulty ones come last, so that their
@@ -120,7 +132,10 @@ pub fn drawing(plan: &Plan, stage: &Stage) -> String {
     for lane in correct.into_iter().chain(faulty) {
         let (hidden, cells) = match lane.who {
             // The tables say the same in words; only what can be pointed at is read out.
-            Who::Correct(place) => (r#" aria-hidden="true""#, correct::cells(plan, lane, stage, place)),
+            Who::Correct(place) => (
+                r#" aria-hidden="true""#,
+                correct::cells(plan, lane, stage, place),
+            ),
             Who::Faulty(place) => ("", told::cells(plan, lane, stage, place)),
         };
         let open = format!(
@@ -142,17 +157,19 @@ fn crown(plan: &Plan, lane: &Lane, stage: &Stage) -> String {
         return String::new();
     };
     let all: usize = kings.values().map(Vec::len).sum();
-    let middle = lane.height as i32 / 2;
     let open = format!(
         r#"g class="crown" data-king="{}" data-phase="{phase}" transform="translate(10 {})""#,
         lane.number,
-        middle - 18
+        lane.middle() - 18
     );
     let title = match by.len() == all {
         true => format!("{} is king of phase {phase}", lane.number),
         false => format!("{} is king of phase {phase} for {}", lane.number, named(by)),
     };
-    element(&open, &(text("title", &title) + "<use href=\"#crown\" x=\"5\"/>" + &by_whom(by, all)))
+    element(
+        &open,
+        &(text("title", &title) + "<use href=\"#crown\" x=\"5\"/>" + &by_whom(by, all)),
+    )
 }
 
 /// Below a crown: by whom, where not by all.
@@ -172,9 +189,8 @@ pub fn svg(class: &str, label: Option<&str>, width: u32, height: u32, inner: &st
         Some(label) => format!(r#"role="group" aria-label="{label}""#),
         None => r#"aria-hidden="true""#.into(),
     };
-    let open = format!(
-        r#"svg class="{class}" {role} width="{width}" height="{height}" viewBox="0 0 {width} {height}""#
-    );
+    let size = format!(r#"width="{width}" height="{height}" viewBox="0 0 {width} {height}""#);
+    let open = format!(r#"svg class="{class}" {role} {size}"#);
     element(&open, inner)
 }
 
@@ -183,7 +199,13 @@ pub fn area(plan: &Plan) -> String {
     let mut row = element(
         r#"div class="names""#,
         &(svg("top", None, plan.names, HEAD, &corner(plan))
-            + &svg("side", None, plan.names, plan.height, "<use href=\"#names\"/>")),
+            + &svg(
+                "side",
+                None,
+                plan.names,
+                plan.height,
+                "<use href=\"#names\"/>",
+            )),
     );
     for stage in plan.stages() {
         let (width, height) = (stage.width(), plan.height);
@@ -191,7 +213,13 @@ pub fn area(plan: &Plan) -> String {
         let below = format!("{}<use href=\"#names\" y=\"{HEAD}\"/>", corner(plan));
         let again = svg("again", None, plan.names, HEAD + height, &below);
         let head = svg("top", None, width, HEAD, &head(plan, &stage));
-        let drawing = svg("drawing", Some(&stage.spoken()), width, height, &drawing(plan, &stage));
+        let drawing = svg(
+            "drawing",
+            Some(&stage.spoken()),
+            width,
+            height,
+            &drawing(plan, &stage),
+        );
         let column = element("div", &(head + &drawing));
         row += &element(r#"div class="stage""#, &(again + &column));
     }

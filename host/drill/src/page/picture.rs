@@ -13,11 +13,18 @@ const APART: u32 = 28;
 pub fn picture(plan: &Plan, style: &str) -> String {
     let rows = rows(plan);
     let row_height = HEAD + plan.height;
-    let width = rows.iter().map(|row| plan.names + wide(row)).max().unwrap_or(0);
+    let width = rows
+        .iter()
+        .map(|row| plan.names + wide(row))
+        .max()
+        .unwrap_or(0);
     let height = rows.len() as u32 * (row_height + APART) - APART;
     let drawn = rows.iter().enumerate().map(|(place, row)| {
         let down = place as u32 * (row_height + APART);
-        element(&format!(r#"g transform="translate(0 {down})""#), &drawn(plan, row))
+        element(
+            &format!(r#"g transform="translate(0 {down})""#),
+            &drawn(plan, row),
+        )
     });
     let inner = [
         text("title", title(plan.run)),
@@ -57,7 +64,15 @@ fn drawn(plan: &Plan, row: &[Stage]) -> String {
             stage.width(),
             plan.height
         );
-        out += &element(&format!(r#"g transform="translate({x})""#), &head(plan, stage));
+        let tall = HEAD + plan.height;
+        out += &format!(
+            r#"<path class="rule" d="M{x} 0v{tall}M{x} {HEAD}h{}"/>"#,
+            stage.width()
+        );
+        out += &element(
+            &format!(r#"g transform="translate({x})""#),
+            &head(plan, stage),
+        );
         out += &element(&clip, &drawing(plan, stage));
         x += stage.width();
     }

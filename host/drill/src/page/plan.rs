@@ -1,5 +1,6 @@
 //! Where everything is drawn: a lane for each controller, a column for each round.
 
+use crate::page::tone::Tone;
 use crate::run::{Round, Run};
 use crate::story::groups;
 use crate::words::phase;
@@ -15,6 +16,8 @@ pub const HEAD: u32 = 54;
 const CROWNS: u32 = 52;
 const RIGHT: u32 = 12;
 
+/// Above the first lane, for what is shown at the end of a line to it.
+pub const EDGE: u32 = 6;
 /// A lane's box, and the space above it.
 pub const ABOVE: u32 = 6;
 pub const TALL: u32 = 40;
@@ -52,6 +55,16 @@ pub struct Lane {
     pub height: u32,
 }
 
+impl Lane {
+    /// The middle of its boxes, from its top.
+    pub fn middle(&self) -> u32 {
+        match self.who {
+            Who::Correct(_) => ABOVE + TALL / 2,
+            Who::Faulty(_) => self.height / 2,
+        }
+    }
+}
+
 /// Correct or faulty, with the place among those.
 #[derive(Clone, Copy)]
 pub enum Who {
@@ -63,6 +76,12 @@ pub enum Who {
 pub struct Group {
     pub to: Vec<u32>,
     pub words: String,
+}
+
+impl Group {
+    pub fn tone(&self) -> Tone {
+        Tone::of(&self.words)
+    }
 }
 
 /// The rounds that are drawn together: the start, or a phase.
@@ -78,7 +97,12 @@ impl<'a> Plan<'a> {
             all.map(|(to, words)| Group { to, words }).collect()
         };
         let faulty = 0..run.scenario.faulty.len();
-        let in_round = |round| faulty.clone().map(|place| groups_of(round, place)).collect();
+        let in_round = |round| {
+            faulty
+                .clone()
+                .map(|place| groups_of(round, place))
+                .collect()
+        };
         let told: Vec<Vec<Vec<Group>>> = run.rounds.iter().map(in_round).collect();
         let lanes = lanes(run, &told);
         let digits = lanes.iter().map(|lane| lane.number.to_string().len()).max();
@@ -121,12 +145,16 @@ impl<'a> Plan<'a> {
 
 impl Stage<'_> {
     pub fn name(&self) -> String {
-        self.phase.map_or("Start".into(), |phase| format!("Phase {phase}"))
+        self.phase
+            .map_or("Start".into(), |phase| format!("Phase {phase}"))
     }
 
     /// The name with the rounds, for who does not see the drawing.
     pub fn spoken(&self) -> String {
-        let (first, last) = (self.rounds[0].round, self.rounds[self.rounds.len() - 1].round);
+        let (first, last) = (
+            self.rounds[0].round,
+            self.rounds[self.rounds.len() - 1].round,
+        );
         match first == last {
             true => format!("{}, round {first}", self.name()),
             false => format!("{}, rounds {first} to {last}", self.name()),
@@ -150,10 +178,12 @@ impl Stage<'_> {
 fn lanes(run: &Run, told: &[Vec<Vec<Group>>]) -> Vec<Lane> {
     let correct = run.scenario.correct.keys().enumerate();
     let faulty = run.scenario.faulty.iter().enumerate();
-    let mut all: Vec<(u32, Who)> = correct.map(|(place, &n)| (n, Who::Correct(place))).collect();
+    let mut all: Vec<(u32, Who)> = correct
+        .map(|(place, &n)| (n, Who::Correct(place)))
+        .collect();
     all.extend(faulty.map(|(place, &n)| (n, Who::Faulty(place))));
     all.sort_by_key(|(number, _)| *number);
-    let mut top = 0;
+    let mut top = EDGE;
     let mut lanes = Vec::new();
     for (number, who) in all {
         let height = match who {
@@ -163,7 +193,12 @@ fn lanes(run: &Run, told: &[Vec<Vec<Group>>]) -> Vec<Lane> {
                 2 * ABOVE + tallest.unwrap_or(0).max(PART)
             }
         };
-        lanes.push(Lane { number, who, top, height });
+        lanes.push(Lane {
+            number,
+            who,
+            top,
+            height,
+        });
         top += height;
     }
     lanes
@@ -173,6 +208,11 @@ fn correct_height(run: &Run, place: usize) -> u32 {
     let mut seen = run.rounds.iter().map(|round| &round.correct[place]);
     let refuses = seen.any(|seen| !seen.junk.is_empty() || seen.refused.is_some());
     2 * ABOVE + TALL + if refuses { TAG } else { 0 }
+}
+
+/// Where a part begins, if the first one begins at `top`.
+pub fn part_top(top: u32, place: usize) -> u32 {
+    top + (PART + GAP) * place as u32
 }
 
 /// How tall the drawn parts of a faulty one's box are together.
