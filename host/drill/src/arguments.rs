@@ -1,6 +1,6 @@
 //! The words of the command.
 
-use crate::controller::Rule;
+use crate::run::Rule;
 
 pub const USAGE: &str = "\
 usage: drill [SCENARIO] [--page FILE] [--rule printed] [--worst N] [--width N]

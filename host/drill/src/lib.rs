@@ -16,8 +16,7 @@
 
 pub mod arguments;
 pub mod bundled;
-pub mod controller;
-pub mod junk;
+pub mod facts;
 pub mod liar;
 pub mod mistake;
 pub mod page;
@@ -26,7 +25,6 @@ pub mod run;
 pub mod scenario;
 pub mod story;
 pub mod table;
-pub mod telling;
 pub mod verdict;
 pub mod words;
 pub mod worst;

@@ -38,8 +38,8 @@ pub fn page(run: &Run, scenario: &str) -> String {
     let body = [
         head::head(run),
         element(shared, &lanes::shared(&plan)),
-        legend::legend(&plan),
         lanes(&plan),
+        legend::legend(&plan),
         details::details(&plan),
         text("h2", "The scenario"),
         text("p", "The drill makes this page again from this text."),

@@ -5,15 +5,21 @@
 //! a controller follows the rules: it works the trays that it gets, and the card sends
 //! what it would send, or something else.
 
+mod controller;
+mod junk;
+mod telling;
+
 use checks::fields::Fields;
 use checks::packing::{pack, Entry};
 use checks::random::Random;
 
-use crate::controller::{Controller, Rule};
+use crate::liar;
 use crate::mistake::Mistake;
 use crate::scenario::{Deed, Order, Saying, Scenario, Whom};
-use crate::telling::Telling;
-use crate::{junk, liar};
+use controller::Controller;
+use telling::Telling;
+
+pub use controller::Rule;
 
 pub type Frames = Vec<Vec<u8>>;
 
@@ -30,6 +36,13 @@ pub struct Round {
     pub correct: Vec<Seen>,
     /// What each faulty one told each correct one; nothing for those that get no tray.
     pub told: Vec<Vec<Option<Frames>>>,
+}
+
+impl Run<'_> {
+    /// The round in which the last one decided.
+    pub fn last(&self) -> &Round {
+        self.rounds.last().expect("a run has a round")
+    }
 }
 
 /// What is seen of a correct controller in a round.

@@ -4,55 +4,41 @@
 use std::cmp::Reverse;
 use std::collections::{BTreeMap, BTreeSet};
 
-use crate::controller::Rule;
-use crate::run::{Round, Run, Seen};
-use crate::verdict::endings;
-use crate::words::{self, kind, named, phase, readings, times};
+use crate::facts::{endings, groups, united, Group};
+use crate::run::{Round, Rule, Run, Seen};
+use crate::scenario::Saying;
+use crate::words::{self, kind, named, phase, times};
+
+const PRINTED: &str = "The correct ones stop by the published method's own rule, when a king is \
+                       named twice. They run on the reference, not on the engine.";
 
 /// The most faulty ones whose lies are told one by one.
 const MOST_LIARS: usize = 4;
 
-/// Groups of receivers that were told the same, each with what that was, in the order of
-/// the first receiver.
-pub fn groups(run: &Run, round: &Round, faulty: usize) -> Vec<(Vec<u32>, String)> {
-    let mut groups: Vec<(Vec<u32>, String)> = Vec::new();
-    for (&number, told) in run.scenario.correct.keys().zip(&round.told[faulty]) {
-        let Some(frames) = told else { continue };
-        let what = readings(frames, round.round);
-        match groups.iter_mut().find(|(_, same)| *same == what) {
-            Some((to, _)) => to.push(number),
-            None => groups.push((vec![number], what)),
-        }
-    }
-    groups
-}
-
-/// The kings of a phase, each with those who name it.
-pub fn kings(run: &Run, phase: u32) -> BTreeMap<u32, Vec<u32>> {
-    let mut kings: BTreeMap<u32, Vec<u32>> = BTreeMap::new();
-    let Some(round) = run.rounds.get(2 + 3 * phase as usize) else {
-        return kings;
+/// Who is on the line, and by which rule they stop.
+pub fn members(run: &Run) -> Vec<String> {
+    let brought = |bit: u8| {
+        let such = run.scenario.correct.iter();
+        let such = such.filter(|(_, &input)| input == bit);
+        let numbers: Vec<u32> = such.map(|(&number, _)| number).collect();
+        (!numbers.is_empty()).then(|| format!("{} brought {bit} in", named(&numbers)))
     };
-    let now = |seen: &&Seen| seen.state.round == round.round && seen.state.king != 0;
-    for seen in round.correct.iter().filter(now) {
-        kings
-            .entry(seen.state.king)
-            .or_default()
-            .push(seen.state.number);
-    }
-    kings
-}
-
-/// The first round from which on all correct ones hold the same bit, if there is one.
-pub fn united<'a>(run: &'a Run) -> Option<&'a Round> {
-    let alike = |round: &&Round| {
-        let mut bits = round.correct.iter().map(|seen| seen.state.bit);
-        let first = bits.next();
-        bits.all(|bit| Some(bit) == first)
+    let inputs: Vec<String> = [1, 0].into_iter().filter_map(brought).collect();
+    let faulty: Vec<u32> = run.scenario.faulty.iter().copied().collect();
+    let liars = match faulty.len() {
+        0 => "nobody is faulty".into(),
+        1 => format!("{} is faulty", faulty[0]),
+        _ => format!("{} are faulty", named(&faulty)),
     };
-    run.rounds.iter().rev().take_while(alike).last()
+    let (size, inputs) = (run.scenario.size(), inputs.join(", "));
+    let line = format!("A line of {size}: {inputs}; {liars}.");
+    match run.rule {
+        Rule::Engine => vec![line],
+        Rule::Printed => vec![line, PRINTED.into()],
+    }
 }
 
+/// What happened, a sentence or two to a line.
 pub fn story(run: &Run) -> Vec<String> {
     let mut lines = lies(run);
     lines.extend(unity(run));
@@ -88,7 +74,7 @@ fn lie(run: &Run, place: usize, number: u32) -> (usize, String) {
     let told = match apart.first() {
         None => format!("Card {number} told everybody the same in each round"),
         Some((first, parts)) => format!(
-            "Card {number} told them different things in {} of {}; in round {}, the first of these, {}",
+            "Card {number} told them different things in {} of {}, first in round {}: {}",
             apart.len(),
             times(run.rounds.len() - 1, "round"),
             first.round,
@@ -103,10 +89,14 @@ fn lie(run: &Run, place: usize, number: u32) -> (usize, String) {
 }
 
 /// What the first few groups were told.
-fn parts_of(groups: &[(Vec<u32>, String)]) -> String {
+fn parts_of(groups: &[Group]) -> String {
     let first = groups.iter().take(3);
-    let part = |(to, what): &(Vec<u32>, String)| {
-        format!("{} to {}", words::short(what), words::short_named(to))
+    let part = |group: &Group| {
+        format!(
+            "{} to {}",
+            group.told.short(),
+            words::short_named(&group.to)
+        )
     };
     let parts: Vec<String> = first.map(part).collect();
     match groups.len() > 3 {
@@ -118,21 +108,24 @@ fn parts_of(groups: &[(Vec<u32>, String)]) -> String {
 /// In how many rounds somebody got nothing, or something that is no frame.
 fn defects(run: &Run, faulty: usize) -> Vec<String> {
     let kinds = [
-        ("silent", "nothing"),
-        ("empty", "empty frames"),
-        ("cut", "cut frames"),
-        ("stale", "stale frames"),
-        ("garbled", "garbled frames"),
+        (None, "nothing"),
+        (Some(Saying::Empty), "empty frames"),
+        (Some(Saying::Cut), "cut frames"),
+        (Some(Saying::Stale), "stale frames"),
+        (Some(Saying::Garbled), "garbled frames"),
     ];
-    let count = |kind: &str| {
+    let is = |group: &Group, defect: &Option<Saying>| match defect {
+        Some(defect) => group.told.0.contains(defect),
+        None => group.told.0.is_empty(),
+    };
+    let count = |defect: &Option<Saying>| {
         let has = |round: &&Round| {
-            groups(run, round, faulty)
-                .iter()
-                .any(|(_, what)| what == kind)
+            let mut told = groups(run, round, faulty).into_iter();
+            told.any(|group| is(&group, defect))
         };
         run.rounds.iter().filter(has).count()
     };
-    let counted = kinds.iter().map(|(kind, name)| (count(kind), name));
+    let counted = kinds.iter().map(|(defect, name)| (count(defect), name));
     let some = counted.filter(|(count, _)| *count > 0);
     some.map(|(count, name)| format!("{name} in {}", times(count, "round")))
         .collect()
@@ -248,36 +241,25 @@ fn refusals(run: &Run) -> Vec<String> {
     lines
 }
 
-/// Who was first heard after round 1, and by whom.
+/// Who was first heard after round 1, and by whom; only how many, if they are many.
 fn late(run: &Run) -> Vec<String> {
     let mut heard: BTreeMap<u32, BTreeMap<u32, Vec<u32>>> = BTreeMap::new();
-    let last = run.rounds.last().expect("a run has a round");
-    for seen in &last.correct {
-        for (number, round) in seen
-            .state
-            .record()
-            .into_iter()
-            .filter(|(_, round)| *round > 0)
-        {
-            heard
-                .entry(number)
-                .or_default()
-                .entry(round)
-                .or_default()
-                .push(seen.state.number);
+    for Seen { state, .. } in &run.last().correct {
+        let record = state.record().into_iter();
+        for (number, round) in record.filter(|&(number, _)| number != state.number) {
+            let by_round = heard.entry(number).or_default();
+            by_round.entry(round).or_default().push(state.number);
         }
     }
-    let is_late = |rounds: &BTreeMap<u32, Vec<u32>>| rounds.keys().any(|&round| round > 1);
+    heard.retain(|_, rounds| rounds.keys().any(|&round| round > 1));
+    if heard.len() > MOST_LIARS {
+        let count = times(heard.len(), "card");
+        return vec![format!("{count} were first heard after round 1 by some.")];
+    }
+    let when = |(round, who): (u32, Vec<u32>)| format!("in round {round} by {}", named(&who));
     let line = |(number, rounds): (u32, BTreeMap<u32, Vec<u32>>)| {
-        let parts: Vec<String> = rounds
-            .iter()
-            .map(|(round, who)| format!("in round {round} by {}", named(who)))
-            .collect();
+        let parts: Vec<String> = rounds.into_iter().map(when).collect();
         format!("{number} was first heard {}.", parts.join(", "))
     };
-    heard
-        .into_iter()
-        .filter(|(_, rounds)| is_late(rounds))
-        .map(line)
-        .collect()
+    heard.into_iter().map(line).collect()
 }

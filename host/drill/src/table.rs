@@ -3,11 +3,11 @@
 mod cells;
 mod layout;
 
-use crate::controller::Rule;
+use crate::facts::kings;
 use crate::run::Run;
-use crate::story::{kings, story};
+use crate::story::{members, story};
 use crate::verdict::{verdict, warning};
-use crate::words::{self, named, numbers};
+use crate::words::{self, numbers};
 use cells::{cell, head};
 use layout::{painted, wrapped, Line, Style};
 
@@ -16,11 +16,6 @@ const ROUNDS: usize = 8;
 const GAP: usize = 2;
 const LEAST: usize = 12;
 const MOST: usize = 28;
-
-/// What is said of the printed rule.
-pub const PRINTED: &str =
-    "The correct ones stop by the published method's own rule, when a king is \
-                           named twice. They run on the reference, not on the engine.";
 
 const LEGEND: &str = "A cell has what was sent, then the own bit, the king, and how many are \
                       heard/candidates. ≠ is where a faulty one told them different things.";
@@ -48,10 +43,8 @@ fn before(run: &Run, width: usize, colour: bool) -> String {
     if !run.scenario.heading.is_empty() {
         lines.push(Line::default());
     }
-    lines.push(Line::of(&members(run), Style::Plain));
-    if run.rule == Rule::Printed {
-        lines.push(Line::of(PRINTED, Style::Plain));
-    }
+    let members = members(run).into_iter();
+    lines.extend(members.map(|line| Line::of(&line, Style::Plain)));
     lines.extend(warning(run).map(|warning| Line::of(&warning, Style::Bad)));
     lines.push(Line::of(LEGEND, Style::Faint));
     paragraphs(&lines, width, colour)
@@ -64,31 +57,6 @@ fn paragraphs(lines: &[Line], width: usize, colour: bool) -> String {
         .iter()
         .map(|line| format!("{}\n", line.trim_end()))
         .collect()
-}
-
-/// Who is on the line.
-pub fn members(run: &Run) -> String {
-    let brought = |bit: u8| {
-        let such = run
-            .scenario
-            .correct
-            .iter()
-            .filter(|(_, &input)| input == bit);
-        let numbers: Vec<u32> = such.map(|(&number, _)| number).collect();
-        (!numbers.is_empty()).then(|| format!("{} brought {bit} in", named(&numbers)))
-    };
-    let parts: Vec<String> = [1, 0].into_iter().filter_map(brought).collect();
-    let faulty: Vec<u32> = run.scenario.faulty.iter().copied().collect();
-    let faulty = match faulty.len() {
-        0 => "nobody is faulty".into(),
-        1 => format!("{} is faulty", faulty[0]),
-        _ => format!("{} are faulty", named(&faulty)),
-    };
-    format!(
-        "A line of {}: {}; {faulty}.",
-        run.scenario.size(),
-        parts.join(", ")
-    )
 }
 
 /// Some columns of the table.

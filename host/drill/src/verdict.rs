@@ -1,6 +1,7 @@
 //! How a run ended, held against document 01's claims.
 
-use crate::run::{Run, Seen};
+use crate::facts::{endings, Ending};
+use crate::run::Run;
 use crate::words::named;
 
 pub struct Verdict {
@@ -9,25 +10,6 @@ pub struct Verdict {
     pub agreed: bool,
     /// The same in one line.
     pub text: String,
-}
-
-/// How one correct controller ended.
-pub struct Ending {
-    pub number: u32,
-    /// 2 if it has none.
-    pub decision: u8,
-    /// The round of the decision, or the one in which it is stuck.
-    pub round: u32,
-}
-
-pub fn endings(run: &Run) -> Vec<Ending> {
-    let last = run.rounds.last().expect("a run has a round");
-    let ending = |seen: &Seen| Ending {
-        number: seen.state.number,
-        decision: seen.state.decision,
-        round: seen.state.round,
-    };
-    last.correct.iter().map(ending).collect()
 }
 
 /// The numbers of those that decided so.

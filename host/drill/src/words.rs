@@ -2,7 +2,7 @@
 
 use std::fmt::{self, Display, Formatter};
 
-use checks::packing::{kind_of, numbers_in, INIT, NONE, PROPOSE, ROSTER, TURN, VALUE};
+use checks::packing::{kind_of, INIT, NONE, PROPOSE, ROSTER, TURN, VALUE};
 
 use crate::scenario::{Junk, Saying, Whom};
 
@@ -28,7 +28,7 @@ fn run((first, last): (u32, u32)) -> String {
 }
 
 /// Between the frames of one that sent several.
-const AND: &str = " and ";
+pub const AND: &str = " and ";
 /// From how many characters on numbers are shown by their count.
 const LONG: usize = 40;
 
@@ -47,28 +47,6 @@ fn short_of(list: &[u32], text: String) -> String {
         true => format!("{} of them", list.len()),
         false => text,
     }
-}
-
-/// What is told, with long lists by their counts.
-pub fn short(words: &str) -> String {
-    let short = |saying: &str| match saying.split_once("lists ") {
-        Some((front, list)) if list.len() > LONG => {
-            format!("{front}lists {} numbers", count(list))
-        }
-        _ => saying.into(),
-    };
-    let each: Vec<String> = words.split(AND).map(short).collect();
-    each.join(AND)
-}
-
-/// How many numbers there are in a text of them.
-fn count(text: &str) -> usize {
-    let run = |word: &str| {
-        let (first, last) = word.split_once('-').unwrap_or((word, word));
-        let end = |text: &str| text.parse::<u32>().unwrap_or(0);
-        1 + (end(last) - end(first)) as usize
-    };
-    text.split_whitespace().map(run).sum()
 }
 
 /// So many of something that is named by one.
@@ -102,39 +80,6 @@ pub fn kind(round: u32) -> &'static str {
 /// The phase of a round, if it is in one.
 pub fn phase(round: u32) -> Option<u32> {
     Some(round.checked_sub(3)? / 3)
-}
-
-/// What bytes say to who expects a frame of a round.
-pub fn reading(bytes: &[u8], round: u32) -> String {
-    match engine::frame(bytes, round) {
-        0 => said(bytes, round).to_string(),
-        _ if bytes.is_empty() => "empty".into(),
-        11 => "cut".into(),
-        12 => "stale".into(),
-        _ => "garbled".into(),
-    }
-}
-
-/// What a frame says that reads in its round.
-fn said(bytes: &[u8], round: u32) -> Saying {
-    let (bit, list) = (bytes[5], numbers_in(bytes));
-    match kind_of(round) {
-        INIT => Saying::Init,
-        ROSTER => Saying::Lists(list),
-        VALUE => Saying::Value(bit),
-        PROPOSE => Saying::Propose(bit),
-        _ if bit == NONE => Saying::Lists(list),
-        _ => Saying::Opinion(bit, list),
-    }
-}
-
-/// What one was told in a round: no frame, one, or several.
-pub fn readings(frames: &[Vec<u8>], round: u32) -> String {
-    let each: Vec<String> = frames.iter().map(|bytes| reading(bytes, round)).collect();
-    match each.is_empty() {
-        true => "silent".into(),
-        false => each.join(AND),
-    }
 }
 
 /// The words that can stand behind `tells ..:` in a round.
@@ -183,6 +128,19 @@ impl Display for Saying {
     }
 }
 
+impl Saying {
+    /// The words with a long list by its count.
+    pub fn short(&self) -> String {
+        match self {
+            Saying::Lists(list) => format!("lists {}", short_listed(list)),
+            Saying::Opinion(bit, list) if !list.is_empty() => {
+                format!("opinion {} lists {}", choice(*bit), short_listed(list))
+            }
+            _ => self.to_string(),
+        }
+    }
+}
+
 impl Display for Junk {
     fn fmt(&self, f: &mut Formatter) -> fmt::Result {
         match self {
@@ -210,6 +168,13 @@ fn listed(list: &[u32]) -> String {
     match list.is_empty() {
         true => "nothing".into(),
         false => numbers(list),
+    }
+}
+
+fn short_listed(list: &[u32]) -> String {
+    match listed(list) {
+        text if text.len() > LONG => format!("{} numbers", list.len()),
+        text => text,
     }
 }
 

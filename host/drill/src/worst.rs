@@ -1,11 +1,10 @@
 //! Looks for the liar that does most harm to a line, among random ones.
 
-use crate::controller::Rule;
+use crate::facts::{endings, kings, united};
 use crate::liar::plan;
-use crate::run::{run, Run};
+use crate::run::{run, Rule, Run};
 use crate::scenario::Scenario;
-use crate::story::{kings, united};
-use crate::verdict::{endings, verdict};
+use crate::verdict::verdict;
 use crate::words::times;
 
 /// How much harm was done, in the order of what counts most.

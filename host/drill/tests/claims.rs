@@ -1,9 +1,8 @@
 //! Random scenarios on the compiled engine, held against document 01's claims.
 
 use checks::random::Random;
-use drill::controller::Rule;
 use drill::liar::plan;
-use drill::run::{run, Run};
+use drill::run::{run, Rule, Run};
 use drill::scenario::{Deed, Junk, Order, Saying, Scenario, Whom};
 use drill::verdict::verdict;
 use drill::worst::worst;
@@ -93,7 +92,7 @@ fn a_thousand_lines_agree() {
             verdict.text
         );
         assert!(decisions_stay(&run), "seed {seed}");
-        let after = drill::story::united(&run).expect("one bit at the end");
+        let after = drill::facts::united(&run).expect("one bit at the end");
         divided += usize::from(after.round > 6);
     }
     println!("1000 lines agree; in {divided} of them bits differed past phase 0");
@@ -194,7 +193,7 @@ fn the_worst_is_kept() {
         assert!(verdict(&run).agreed);
         (
             run.rounds.len(),
-            drill::story::united(&run).map(|round| round.round),
+            drill::facts::united(&run).map(|round| round.round),
         )
     };
     assert!(last(1) <= last(50) && last(50) <= last(300));

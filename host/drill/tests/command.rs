@@ -62,7 +62,8 @@ fn without_words_it_runs_the_incident_and_says_what_else() {
 
 #[test]
 fn with_a_name_it_prints_what_is_stored() {
-    let stored = include_str!("../scenarios/flood.table");
+    let stored = Path::new(env!("CARGO_MANIFEST_DIR")).join("scenarios/flood.table");
+    let stored = fs::read_to_string(stored).expect("the table");
     assert_eq!(out(&drill(&["flood"])), stored);
 }
 

@@ -5,11 +5,10 @@ use std::path::{Path, PathBuf};
 use std::{env, fs};
 
 use drill::bundled;
-use drill::controller::Rule;
 use drill::mistake::shown;
 use drill::page::picture;
 use drill::parse::parse;
-use drill::run::run;
+use drill::run::{run, Rule};
 use drill::scenario::{Deed, Junk, Saying};
 use drill::verdict::verdict;
 

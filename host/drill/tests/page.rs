@@ -7,12 +7,10 @@ use std::path::{Path, PathBuf};
 use std::process::{Command, Stdio};
 use std::time::{Duration, Instant};
 
-use drill::controller::Rule;
+use drill::facts::{endings, kings};
 use drill::page::{page, picture};
 use drill::parse::parse;
-use drill::run::{run, Run};
-use drill::story::kings;
-use drill::verdict::endings;
+use drill::run::{run, Rule, Run};
 
 /// About what a browser opens at once.
 const LARGEST: usize = 12_500_000;

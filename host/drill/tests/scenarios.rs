@@ -5,9 +5,8 @@ use std::path::{Path, PathBuf};
 use std::{env, fs};
 
 use drill::bundled;
-use drill::controller::Rule;
 use drill::parse::parse;
-use drill::run::run;
+use drill::run::{run, Rule};
 use drill::table::shown;
 use drill::verdict::verdict;
 

@@ -2,11 +2,12 @@
 
 use std::fmt::Write;
 
+use crate::facts::Told;
 use crate::page::markup::text;
 use crate::page::plan::{Lane, Plan, Stage, BOX, GUTTER, PITCH};
 use crate::page::short;
 use crate::run::{Round, Seen};
-use crate::words::{numbers, reading};
+use crate::words::numbers;
 
 /// The room for text in a box.
 const ROOM: u32 = BOX - 14;
@@ -60,7 +61,7 @@ fn cell(plan: &Plan, lane: &Lane, place: usize, round: &Round, x: u32) -> String
         ),
         false => text(
             r#"text x="8" y="22""#,
-            &short::words(&sent(seen, round.round), 12, ROOM),
+            &short::words(&Told::sent(&seen.sent, round.round), 12, ROOM),
         ),
     };
     out += &match before {
@@ -98,14 +99,6 @@ pub fn bit_before(plan: &Plan, place: usize, round: u32) -> Option<u8> {
     (before != now).then_some(before)
 }
 
-/// What it sent in a round, in words; nothing from the decision on.
-pub fn sent(seen: &Seen, round: u32) -> String {
-    match seen.sent.is_empty() {
-        true => "nothing".into(),
-        false => reading(&seen.sent, round),
-    }
-}
-
 /// Refusals, with a blank between them.
 pub fn listed(refusals: &[u8]) -> String {
     let wide: Vec<u32> = refusals.iter().copied().map(u32::from).collect();
@@ -117,7 +110,7 @@ fn spoken(number: u32, seen: &Seen, round: u32, before: Option<u8>) -> String {
     let mut out = match state.undecided() {
         true => format!(
             "{number} in round {round} sends {}; bit {}",
-            sent(seen, round),
+            Told::sent(&seen.sent, round),
             state.bit
         ),
         false => format!("{number} in round {round} decides {}", state.decision),

@@ -2,7 +2,8 @@
 
 use std::fmt::Write;
 
-use crate::page::correct::{bit_before, is_quiet, listed, sent};
+use crate::facts::Told;
+use crate::page::correct::{bit_before, is_quiet, listed};
 use crate::page::markup::{element, escaped, text};
 use crate::page::plan::{Lane, Plan, Stage, Who};
 use crate::run::Round;
@@ -77,7 +78,7 @@ fn correct(plan: &Plan, place: usize, round: &Round) -> String {
         return if state.undecided() { "stuck" } else { "quiet" }.into();
     }
     let mut out = match state.undecided() {
-        true => text("b", &sent(seen, round.round)),
+        true => text("b", &Told::sent(&seen.sent, round.round).to_string()),
         false => text("b", &format!("decides {}", state.decision)),
     };
     let _ = write!(out, "<br/>bit {}", state.bit);
@@ -117,7 +118,13 @@ fn faulty(plan: &Plan, place: usize, round: &Round) -> String {
     let groups = plan.groups(round, place);
     let told: Vec<String> = groups
         .iter()
-        .map(|group| format!("{} to {}", escaped(&group.words), numbers(&group.to)))
+        .map(|group| {
+            format!(
+                "{} to {}",
+                escaped(&group.told.to_string()),
+                numbers(&group.to)
+            )
+        })
         .collect();
     match groups.len() {
         0 => "nobody listens any more".into(),

@@ -1,11 +1,9 @@
 //! The head of the page: the title, how it ended, who was on the line, what happened.
 
-use crate::controller::Rule;
 use crate::page::markup::{element, escaped, text};
 use crate::run::Run;
-use crate::story::story;
+use crate::story::{members, story};
 use crate::verdict::{verdict, warning};
-use crate::words::named;
 
 /// The remarks in front of the scenario that say something.
 fn remarks<'a>(run: &'a Run) -> impl Iterator<Item = &'a str> {
@@ -19,11 +17,7 @@ pub fn title<'a>(run: &'a Run) -> &'a str {
 
 pub fn head(run: &Run) -> String {
     let notes: String = remarks(run).skip(1).map(note).collect();
-    let line = text("p", &on_line(run));
-    let rule = match run.rule {
-        Rule::Engine => String::new(),
-        Rule::Printed => text("p", PRINTED),
-    };
+    let line = members(run).iter().map(|line| text("p", line)).collect();
     let story = story(run);
     let sentences: String = story.iter().map(|line| text("li", line)).collect();
     // Many faulty ones make many sentences, which are set in columns.
@@ -37,15 +31,11 @@ pub fn head(run: &Run) -> String {
         notes,
         banner(run),
         line,
-        rule,
         text("h2", "What happened"),
         element(&format!(r#"ul class="{class}""#), &sentences),
     ];
     element("header", &parts.concat())
 }
-
-const PRINTED: &str = "The correct ones stop by the published method's own rule: \
-                       when a king is named twice.";
 
 /// A remark; its first word stands out if it is a call to notice something.
 fn note(line: &str) -> String {
@@ -81,29 +71,4 @@ fn sign(class: &str, first: &str, rest: &str) -> String {
     let icon = element(icon, shape);
     let words = format!("<p><b>{}:</b> {}</p>", escaped(first), escaped(rest));
     element(&format!(r#"div class="banner {class}""#), &(icon + &words))
-}
-
-/// Who was on the line.
-pub fn on_line(run: &Run) -> String {
-    let scenario = run.scenario;
-    let with = |bit: u8| -> Vec<u32> {
-        let all = scenario.correct.iter().filter(|(_, &input)| input == bit);
-        all.map(|(&number, _)| number).collect()
-    };
-    let brought = [1, 0].map(|bit| (bit, with(bit)));
-    let groups = brought.iter().filter(|(_, who)| !who.is_empty());
-    let inputs: Vec<String> = groups
-        .map(|(bit, who)| format!("{} brought {bit} in", named(who)))
-        .collect();
-    let faulty: Vec<u32> = scenario.faulty.iter().copied().collect();
-    let liars = match faulty.len() {
-        0 => "nobody is faulty".into(),
-        1 => format!("{} is faulty", faulty[0]),
-        _ => format!("{} are faulty", named(&faulty)),
-    };
-    format!(
-        "A line of {}: {}; {liars}.",
-        scenario.size(),
-        inputs.join(", ")
-    )
 }

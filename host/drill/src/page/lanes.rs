@@ -2,10 +2,10 @@
 
 use std::fmt::Write;
 
+use crate::facts::kings;
 use crate::page::markup::{element, text};
 use crate::page::plan::{Lane, Plan, Stage, Who, ABOVE, BOX, EDGE, HEAD, PART, TALL};
 use crate::page::{correct, lines, short, told};
-use crate::story::kings;
 use crate::words::{kind, named, numbers};
 
 /// What all drawings use: boxes, signs, the ground with the faulty lanes marked, the names.

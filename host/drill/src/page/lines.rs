@@ -3,8 +3,9 @@
 
 use std::fmt::Write;
 
+use crate::facts::{Group, Told};
 use crate::page::markup::{element, escaped};
-use crate::page::plan::{part_top, Group, Lane, Plan, ABOVE, BOX, GAP, MORE, MOST_PARTS, PART};
+use crate::page::plan::{part_top, Lane, Plan, ABOVE, BOX, GAP, MORE, MOST_PARTS, PART};
 use crate::page::short;
 use crate::page::tone::Tone;
 
@@ -27,14 +28,14 @@ pub fn lines(plan: &Plan, lane: &Lane, groups: &[Group], top: u32) -> String {
 }
 
 /// Where the lines of a tone end, seen from the faulty one's lane, with what was told.
-fn ends<'a>(plan: &Plan, lane: &Lane, groups: &'a [Group], of: Tone) -> Vec<(i32, &'a str)> {
+fn ends<'a>(plan: &Plan, lane: &Lane, groups: &'a [Group], of: Tone) -> Vec<(i32, &'a Told)> {
     let mut ends = Vec::new();
-    for group in groups.iter().filter(|group| group.tone() == of) {
+    for group in groups.iter().filter(|group| Tone::of(&group.told) == of) {
         let lanes = group.to.iter().filter_map(|&number| plan.lane(number));
         let y = |to: &Lane| to.top as i32 - lane.top as i32 + ABOVE as i32 - 4;
-        ends.extend(lanes.map(|to| (y(to), group.words.as_str())));
+        ends.extend(lanes.map(|to| (y(to), &group.told)));
     }
-    ends.sort_unstable();
+    ends.sort_by_key(|(y, _)| *y);
     ends
 }
 
@@ -43,7 +44,7 @@ fn starts(groups: &[Group], top: u32, of: Tone) -> Vec<i32> {
     let places = groups
         .iter()
         .enumerate()
-        .filter(|(_, group)| group.tone() == of);
+        .filter(|(_, group)| Tone::of(&group.told) == of);
     let start = |(place, _)| match place < MOST_PARTS {
         true => part_top(top, place) + PART / 2,
         false => part_top(top, MOST_PARTS) + MORE / 2 - GAP,
@@ -54,7 +55,7 @@ fn starts(groups: &[Group], top: u32, of: Tone) -> Vec<i32> {
 }
 
 /// From the parts to the trunk of their tone, and along it to the nearest end.
-fn from(tone: Tone, starts: &[i32], ends: &[(i32, &str)]) -> String {
+fn from(tone: Tone, starts: &[i32], ends: &[(i32, &Told)]) -> String {
     let mut path = String::new();
     for &start in starts {
         let near = ends
@@ -77,7 +78,7 @@ fn trunk(tone: Tone) -> i32 {
     4 + 3 * rank.unwrap_or(0) as i32
 }
 
-fn with_words(tone: Tone, ends: &[(i32, &str)]) -> String {
+fn with_words(tone: Tone, ends: &[(i32, &Told)]) -> String {
     let trunk = trunk(tone);
     let mut path = format!("M-{trunk} {}", ends[0].0);
     let mut words = String::new();
@@ -88,9 +89,9 @@ fn with_words(tone: Tone, ends: &[(i32, &str)]) -> String {
     format!(r#"<path d="{path}"/>{words}"#)
 }
 
-fn end_words(y: i32, words: &str) -> String {
+fn end_words(y: i32, told: &Told) -> String {
     // They are bold, and so a little wider.
-    let words = short::words(words, 12, BOX - 4);
+    let words = short::words(told, 12, BOX - 4);
     let wide = short::width(&words, 12) + 12;
     format!(
         r#"<rect x="-1" y="{}" width="{wide}" height="16" rx="8"/><text x="5" y="{}">{}</text>"#,
@@ -101,7 +102,7 @@ fn end_words(y: i32, words: &str) -> String {
 }
 
 /// The trunk alone: the style puts a marker at each of its points.
-fn with_signs(tone: Tone, ends: &[(i32, &str)]) -> String {
+fn with_signs(tone: Tone, ends: &[(i32, &Told)]) -> String {
     let mut at = ends[0].0;
     let mut path = format!("M-{} {at}", trunk(tone));
     for (y, _) in ends {

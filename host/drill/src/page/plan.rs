@@ -1,8 +1,8 @@
 //! Where everything is drawn: a lane for each controller, a column for each round.
 
-use crate::page::tone::Tone;
+use crate::facts::{groups, Group};
 use crate::run::{Round, Run};
-use crate::story::groups;
+
 use crate::words::phase;
 
 /// A box is what one controller did in one round. In front of it is a gutter for the
@@ -72,18 +72,6 @@ pub enum Who {
     Faulty(usize),
 }
 
-/// Receivers that were told the same.
-pub struct Group {
-    pub to: Vec<u32>,
-    pub words: String,
-}
-
-impl Group {
-    pub fn tone(&self) -> Tone {
-        Tone::of(&self.words)
-    }
-}
-
 /// The rounds that are drawn together: the start, or a phase.
 pub struct Stage<'a> {
     pub phase: Option<u32>,
@@ -92,15 +80,11 @@ pub struct Stage<'a> {
 
 impl<'a> Plan<'a> {
     pub fn of(run: &'a Run<'a>, live: bool) -> Plan<'a> {
-        let groups_of = |round: &Round, place: usize| -> Vec<Group> {
-            let all = groups(run, round, place).into_iter();
-            all.map(|(to, words)| Group { to, words }).collect()
-        };
         let faulty = 0..run.scenario.faulty.len();
         let in_round = |round| {
             faulty
                 .clone()
-                .map(|place| groups_of(round, place))
+                .map(|place| groups(run, round, place))
                 .collect()
         };
         let told: Vec<Vec<Vec<Group>>> = run.rounds.iter().map(in_round).collect();

@@ -1,5 +1,8 @@
 //! Words cut short to fit a box, whatever the reader's font.
 
+use crate::facts::Told;
+use crate::scenario::Saying;
+
 /// About how many pixels wide a text is. Measured by DejaVu Sans, which is wider than most.
 pub fn width(text: &str, size: u32) -> u32 {
     let hundredths = |c: char| match c {
@@ -20,29 +23,16 @@ pub fn fitting<const N: usize>(choices: [String; N], size: u32, room: u32) -> St
 }
 
 /// What was sent or told, in words that fit.
-pub fn words(words: &str, size: u32, room: u32) -> String {
-    fitting([words.into(), shorter(words)], size, room)
+pub fn words(told: &Told, size: u32, room: u32) -> String {
+    fitting([told.to_string(), shorter(told)], size, room)
 }
 
 /// The same without the numbers that it lists.
-fn shorter(words: &str) -> String {
-    let frames = words.split(" and ").count();
-    if frames > 1 {
-        return format!("{frames} frames");
+fn shorter(told: &Told) -> String {
+    match told.0.as_slice() {
+        [Saying::Lists(list)] => format!("a list of {}", list.len()),
+        [Saying::Opinion(bit, _)] => Saying::Opinion(*bit, Vec::new()).to_string(),
+        [] | [_] => told.to_string(),
+        frames => format!("{} frames", frames.len()),
     }
-    match words.split_once("lists ") {
-        Some(("", list)) => format!("a list of {}", count(list)),
-        Some((opinion, _)) => opinion.trim_end().into(),
-        None => words.into(),
-    }
-}
-
-/// How many numbers a text such as `3 5-9` has.
-fn count(list: &str) -> u64 {
-    let number = |text: &str| text.parse::<u64>().unwrap_or(0);
-    let spans = list.split(' ').map(|span| match span.split_once('-') {
-        Some((first, last)) => 1 + number(last) - number(first),
-        None => 1,
-    });
-    spans.sum()
 }

@@ -2,12 +2,12 @@
 
 use std::fmt::Write;
 
+use crate::facts::Group;
 use crate::page::lines::lines;
 use crate::page::markup::{element, text};
-use crate::page::plan::{
-    part_top, parts_height, Group, Lane, Plan, Stage, BOX, GAP, MORE, MOST_PARTS,
-};
+use crate::page::plan::{part_top, parts_height, Lane, Plan, Stage, BOX, GAP, MORE, MOST_PARTS};
 use crate::page::short;
+use crate::page::tone::Tone;
 use crate::run::Round;
 use crate::words::numbers;
 
@@ -69,14 +69,17 @@ fn parts(groups: &[Group], top: u32) -> String {
             r##"<use href="#part" y="{y}"/>{}{}"##,
             text(
                 &format!(r#"text x="8" y="{}""#, y + 15),
-                &short::words(&group.words, 12, room)
+                &short::words(&group.told, 12, room)
             ),
             text(
                 &format!(r#"text class="m" x="8" y="{}""#, y + 28),
                 &receivers(group, all)
             ),
         );
-        out += &element(&format!(r#"g class="{}""#, group.tone().class()), &inner);
+        out += &element(
+            &format!(r#"g class="{}""#, Tone::of(&group.told).class()),
+            &inner,
+        );
     }
     if groups.len() > MOST_PARTS {
         let y = part_top(top, MOST_PARTS) + MORE - GAP - 4;
@@ -108,7 +111,7 @@ fn spoken(plan: &Plan, number: u32, round: u32, groups: &[Group]) -> String {
         false => FEWER_SPOKEN,
     };
     let part = |group: &Group| {
-        let words = short::words(&group.words, 12, 4 * BOX);
+        let words = short::words(&group.told, 12, 4 * BOX);
         format!("{words} to {}", numbers(&group.to))
     };
     let parts: Vec<String> = groups.iter().take(most).map(part).collect();

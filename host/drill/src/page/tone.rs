@@ -1,5 +1,8 @@
 //! How what was told is coloured: by the bit in it, or by why there is none.
 
+use crate::facts::Told;
+use crate::scenario::Saying;
+
 #[derive(Clone, Copy, Debug, PartialEq, Eq)]
 pub enum Tone {
     Zero,
@@ -14,19 +17,17 @@ pub enum Tone {
 impl Tone {
     pub const ALL: [Tone; 5] = [Tone::Zero, Tone::One, Tone::Plain, Tone::Void, Tone::Silent];
 
-    /// The tone of what [`crate::words::readings`] says was told.
-    pub fn of(words: &str) -> Tone {
-        let mut frames = words.split(" and ");
-        let first = frames.next().unwrap_or_default();
-        if frames.any(|frame| frame != first) {
+    pub fn of(told: &Told) -> Tone {
+        let Some((first, others)) = told.0.split_first() else {
+            return Tone::Silent;
+        };
+        if others.iter().any(|other| other != first) {
             return Tone::Void;
         }
-        let mut parts = first.split(' ');
-        match (parts.next().unwrap_or_default(), parts.next()) {
-            ("value" | "propose" | "opinion", Some("0")) => Tone::Zero,
-            ("value" | "propose" | "opinion", Some("1")) => Tone::One,
-            ("garbled" | "stale" | "cut" | "empty", _) => Tone::Void,
-            ("silent", _) => Tone::Silent,
+        match first {
+            Saying::Value(0) | Saying::Propose(0) | Saying::Opinion(0, _) => Tone::Zero,
+            Saying::Value(1) | Saying::Propose(1) | Saying::Opinion(1, _) => Tone::One,
+            Saying::Garbled | Saying::Stale | Saying::Cut | Saying::Empty => Tone::Void,
             _ => Tone::Plain,
         }
     }

@@ -1,9 +1,9 @@
 //! What stands in the cells of the table: a correct one's round, and what a faulty one told.
 
+use crate::facts::{groups, Group, Told};
 use crate::run::{Round, Run, Seen};
-use crate::story::groups;
 use crate::table::layout::{Line, Style};
-use crate::words::{self, reading};
+use crate::words;
 
 /// The most groups of receivers that are told apart in a cell.
 const MOST_GROUPS: usize = 4;
@@ -43,7 +43,7 @@ fn seen(round: &Round, seen: &Seen, before: Option<&Seen>) -> Vec<Line> {
     let decided_now = state.round == round.round && !state.undecided();
     let mut lines = match (seen.sent.is_empty(), state.undecided()) {
         (false, _) => vec![Line::of(
-            &words::short(&reading(&seen.sent, round.round)),
+            &Told::sent(&seen.sent, round.round).short(),
             Style::Plain,
         )],
         (true, true) => return vec![Line::of("stuck", Style::Bad)],
@@ -87,10 +87,14 @@ fn held(seen: &Seen, before: Option<&Seen>) -> Line {
 /// What a faulty one told whom, marked where it told them different things.
 fn told(run: &Run, round: &Round, faulty: usize) -> Vec<Line> {
     let groups = groups(run, round, faulty);
-    let line = |(to, what): &(Vec<u32>, String)| match groups.len() {
-        1 => Line::of(&format!("all: {}", words::short(what)), Style::Faulty),
+    let line = |group: &Group| match groups.len() {
+        1 => Line::of(&format!("all: {}", group.told.short()), Style::Faulty),
         _ => Line::of("≠", Style::Bad).and(
-            &format!("{}: {}", words::short_numbers(to), words::short(what)),
+            &format!(
+                "{}: {}",
+                words::short_numbers(&group.to),
+                group.told.short()
+            ),
             Style::Faulty,
         ),
     };

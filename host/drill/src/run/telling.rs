@@ -2,7 +2,7 @@
 
 use checks::packing::{frame, kind_of, INIT, NONE, ROSTER, VALUE};
 
-use crate::controller::Controller;
+use crate::run::controller::Controller;
 use crate::scenario::Saying;
 
 /// The bit of a garbled frame, which no kind allows.
