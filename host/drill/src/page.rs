@@ -6,6 +6,7 @@
 
 mod correct;
 mod details;
+mod glance;
 mod head;
 mod lanes;
 mod legend;
@@ -38,6 +39,7 @@ pub fn page(run: &Run, scenario: &str) -> String {
     let body = [
         head::head(run),
         element(shared, &lanes::shared(&plan)),
+        glance::glance(&plan),
         lanes(&plan),
         legend::legend(&plan),
         details::details(&plan),
