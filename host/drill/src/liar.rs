@@ -1,16 +1,16 @@
 //! Random liars: what one tells if anything will do, and whole plans of lying.
 
-use checks::packing::{has_list, kind_of, INIT, NONE, PROPOSE, ROSTER, VALUE};
+use checks::packing::{kind_of, INIT, NONE, PROPOSE, TURN, VALUE};
 use checks::random::Random;
 
-use crate::scenario::{Deed, Order, Saying, Scenario, Whom};
+use crate::scenario::{Deed, Order, Saying, Scenario, Whom, MOST_LISTED};
 
 /// Numbers that are mostly nobody's.
 const MADE_UP: [u32; 4] = [1, 1000, 2000, u32::MAX];
 
 /// Something to tell in a round: mostly a frame that reads.
-pub fn anything(random: &mut Random, scenario: &Scenario, round: u32) -> Vec<Saying> {
-    let saying = match random.below(20) {
+pub fn anything(random: &mut Random, scenario: &Scenario, round: u32) -> Saying {
+    match random.below(20) {
         0 => Saying::Silent,
         1 => Saying::Empty,
         2 => Saying::Garbled,
@@ -30,27 +30,17 @@ pub fn anything(random: &mut Random, scenario: &Scenario, round: u32) -> Vec<Say
             let bit = random.below(3) as u8;
             good(random, scenario, round, bit)
         }
-    };
-    vec![saying]
+    }
 }
 
 /// A frame that reads, with this bit where the kind allows it.
 fn good(random: &mut Random, scenario: &Scenario, round: u32, bit: u8) -> Saying {
-    let list = match has_list(kind_of(round)) {
-        true => some_numbers(random, scenario),
-        false => Vec::new(),
-    };
-    saying_of(round, bit, list)
-}
-
-fn saying_of(round: u32, bit: u8, list: Vec<u32>) -> Saying {
     match kind_of(round) {
         INIT => Saying::Init,
-        ROSTER => Saying::Lists(list),
         VALUE => Saying::Value(bit % 2),
         PROPOSE => Saying::Propose(bit),
-        _ if bit == NONE => Saying::Lists(list),
-        _ => Saying::Opinion(bit, list),
+        TURN if bit != NONE => Saying::Opinion(bit, some_numbers(random, scenario)),
+        _ => Saying::Lists(some_numbers(random, scenario)),
     }
 }
 
@@ -66,7 +56,7 @@ fn some_numbers(random: &mut Random, scenario: &Scenario) -> Vec<u32> {
     list.extend(MADE_UP.iter().filter(|_| random.percent(10)));
     list.sort_unstable();
     list.dedup();
-    list.truncate(64);
+    list.truncate(MOST_LISTED);
     list
 }
 
@@ -110,7 +100,7 @@ impl Manner {
         let with_one = scenario.correct.iter().filter(|(_, &bit)| bit == 1);
         let side = match random.percent(40) {
             true => with_one.map(|(&number, _)| number).collect(),
-            false => half(random, scenario),
+            false => some_side(random, scenario),
         };
         Manner {
             side,
@@ -129,7 +119,7 @@ impl Manner {
         faulty: u32,
     ) -> Vec<Deed> {
         let side = match random.percent(self.restless) {
-            true => half(random, scenario),
+            true => some_side(random, scenario),
             false => self.side.clone(),
         };
         let (ones, zeros): (Vec<u32>, Vec<u32>) = scenario
@@ -142,25 +132,26 @@ impl Manner {
         let deed = |(bit, to): (u8, Vec<u32>)| Deed::Tells {
             who: Some(faulty),
             whom: Whom::These(to.into_iter().collect()),
-            what: self.told(random, scenario, round, bit),
+            what: vec![self.told(random, scenario, round, bit)],
         };
         sides.map(deed).collect()
     }
 
-    fn told(&self, random: &mut Random, scenario: &Scenario, round: u32, bit: u8) -> Vec<Saying> {
+    fn told(&self, random: &mut Random, scenario: &Scenario, round: u32, bit: u8) -> Saying {
         if random.percent(self.odd) {
             return anything(random, scenario, round);
         }
         let bit = if random.percent(self.shy) { NONE } else { bit };
-        let frame = good(random, scenario, round, bit);
+        // Who is not told of it names other kings at first.
         match kind_of(round) == INIT && random.percent(30) {
-            true => vec![Saying::Silent],
-            false => vec![frame],
+            true => Saying::Silent,
+            false => good(random, scenario, round, bit),
         }
     }
 }
 
-fn half(random: &mut Random, scenario: &Scenario) -> Vec<u32> {
+/// Some of the receivers, or none, or all.
+fn some_side(random: &mut Random, scenario: &Scenario) -> Vec<u32> {
     let all: Vec<u32> = scenario.correct.keys().copied().collect();
     let count = random.within(0, all.len());
     random.some(&all, count)

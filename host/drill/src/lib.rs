@@ -3,14 +3,14 @@
 //!
 //! A trainer writes a scenario, a short text; docs/DRILL.md is the page for trainers.
 //!
-//! - [`scenario`] is what a scenario says; [`parse`] and [`sayings`] read its text, by the words
-//!   of [`tokens`], and [`mistake`] is what is wrong with one; [`write`] writes one out;
-//! - [`controller`] is one controller at work, by the engine's rules or the printed one;
-//! - [`run`] runs the line; [`telling`] makes frames of what is told, [`junk`] trays that are
-//!   none, and [`liar`] lies at random;
-//! - [`verdict`] says how it ended, and [`story`] why; [`words`] has the words;
-//! - [`table`] is the table for a terminal, [`page`] the page for a browser;
-//! - [`worst`] looks for the liar that does most harm.
+//! - [`scenario`] is what a scenario says; [`parse`] reads its text, [`mistake`] is what is
+//!   wrong with one, [`write`] writes one out, and [`bundled`] has those that come with it;
+//! - [`run`] runs the line, each controller by the engine's rules or by the printed one;
+//! - [`facts`] is what is read off a run, [`verdict`] how it ended, [`story`] why;
+//! - [`table`] is the table for a terminal, [`page`] the page for a browser, [`words`] the
+//!   words of both and of scenarios;
+//! - [`liar`] lies at random, and [`worst`] looks for the liar that does most harm;
+//! - [`arguments`] are the words of the command.
 
 #![forbid(unsafe_code)]
 

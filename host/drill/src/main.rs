@@ -93,7 +93,9 @@ fn save(run: &Run, text: &str, file: Option<&str>) -> Result<(), String> {
         true => page::picture(run),
         false => page::page(run, text),
     };
-    fs::write(file, content).map_err(|error| format!("{file}: {error}\n"))
+    fs::write(file, content).map_err(|error| format!("{file}: {error}\n"))?;
+    eprintln!("written: {file}");
+    Ok(())
 }
 
 /// Who reads the output may stop reading.

@@ -129,6 +129,9 @@ impl<'a> Line<'a> {
         let to_correct: Vec<Handed> = self.correct.iter().map(|one| self.handed(one)).collect();
         let to_behind: Vec<Handed> = self.behind.iter().map(|one| self.handed(one)).collect();
         for (place, handed) in to_correct.into_iter().enumerate() {
+            if self.correct[place].is_stuck() {
+                continue;
+            }
             seen.correct[place].junk = self.hand_junk(place, &handed.tray)?;
             let one = &mut self.correct[place];
             if one.sent.is_empty() {
@@ -188,9 +191,9 @@ impl<'a> Line<'a> {
                 let mut random = chance(order, [round, from, drawn_for(order, to)]);
                 liar::anything(&mut random, self.scenario, round)
             }
-            _ => vec![saying.clone()],
+            _ => saying.clone(),
         };
-        let drawn = sayings.iter().flat_map(draw);
+        let drawn = sayings.iter().map(draw);
         drawn.flat_map(|saying| telling.frames(&saying)).collect()
     }
 

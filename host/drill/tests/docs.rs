@@ -122,7 +122,8 @@ fn its_words_can_be_told() {
                 .to_string()
         })
         .collect();
-    let names = "anything bit bytes cut empty garbled honest init lists opinion propose repeats silent stale twice value";
+    let names = "anything bit bytes cut empty garbled honest init lists opinion propose \
+                 repeats silent stale twice value";
     assert_eq!(kinds.into_iter().collect::<Vec<_>>().join(" "), names);
 }
 

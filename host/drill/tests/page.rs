@@ -13,7 +13,7 @@ use drill::parse::parse;
 use drill::run::{run, Rule, Run};
 
 /// About what a browser opens at once.
-const LARGEST: usize = 12_500_000;
+const LARGEST: usize = 13_000_000;
 
 const LONGEST: &str = "line 1-20=1 42-64=0
 faulty 21-41
@@ -276,6 +276,29 @@ fn shows_every_lane_round_decision_and_king() {
             hold_lanes(run, &elements);
             hold_decisions(run, &elements);
             hold_crowns(run, &elements);
+        });
+    }
+}
+
+/// At a glance, a small line has the bit of each correct one in each of its rounds.
+#[test]
+fn shows_all_bits_at_a_glance() {
+    for text in scenarios() {
+        with_runs(&text, |run| {
+            let page = page(run, &text);
+            for bit in [0, 1] {
+                let held = |place: usize| {
+                    let seen = run
+                        .rounds
+                        .iter()
+                        .map(move |round| (round, &round.correct[place]));
+                    let at_work = seen.filter(|(round, seen)| seen.state.round == round.round);
+                    at_work.filter(|(_, seen)| seen.state.bit == bit).count()
+                };
+                let count: usize = (0..run.scenario.correct.len()).map(held).sum();
+                let shown = page.matches(&format!("<text class=\"d{bit}\"")).count();
+                assert_eq!(shown, count, "cells with {bit}");
+            }
         });
     }
 }

@@ -15,11 +15,12 @@ use crate::run::{Round, Seen};
 const HEAD: u32 = 22;
 const GAP: u32 = 4;
 
-const WORDS: &str = "Every controller in every round: blue for bit 0, orange for bit 1. A faulty one's \
-                     cells have what it told, in stripes where it told them different things: grey \
-                     without a bit, hatched what counts for nothing, blank where it was silent. Framed \
-                     in gold: the king of the phase, with a broken frame if only some name it. Framed \
-                     in the colour of the text: the decision. The lanes below have it in words.";
+const WORDS: &str = "Every controller in every round: blue for bit 0, orange for bit 1. A \
+                     faulty one's cells have what it told, in stripes where it told them different \
+                     things: grey without a bit, hatched what counts for nothing, blank where it \
+                     was silent. Framed in gold: the king of the phase, with a broken frame if only \
+                     some name it. Framed in the colour of the text: the decision. The lanes below \
+                     have it in words.";
 
 /// How large the cells are: all of a run is to be seen at once.
 struct Grid {
@@ -83,9 +84,8 @@ pub fn glance(plan: &Plan) -> String {
         + &lanes
             .map(|(place, lane)| row(plan, &grid, place, lane))
             .collect::<String>();
-    let open = format!(
-        r#"svg class="glance" role="img" aria-label="{WORDS}" width="{width}" height="{height}" viewBox="0 0 {width} {height}""#
-    );
+    let size = format!(r#"width="{width}" height="{height}" viewBox="0 0 {width} {height}""#);
+    let open = format!(r#"svg class="glance" role="img" aria-label="{WORDS}" {size}"#);
     let drawn = element(&open, &inner);
     element(
         "section",

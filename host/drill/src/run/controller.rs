@@ -52,6 +52,11 @@ impl Controller {
         Fields::of(&self.image)
     }
 
+    /// Whether it sends nothing though it has not decided: it refused a round's tray.
+    pub fn is_stuck(&self) -> bool {
+        self.sent.is_empty() && self.state().undecided()
+    }
+
     /// Hands over a tray, or what the cable took for one: 0 if it is worked, else the
     /// refusal, which changes nothing.
     pub fn hand(&mut self, tray: &[u8]) -> u8 {
