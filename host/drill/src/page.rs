@@ -40,8 +40,8 @@ pub fn page(run: &Run, scenario: &str) -> String {
         head::head(run),
         element(shared, &lanes::shared(&plan)),
         glance::glance(&plan),
-        lanes(&plan),
         legend::legend(&plan),
+        lanes(&plan),
         details::details(&plan),
         text("h2", "The scenario"),
         text("p", "The drill makes this page again from this text."),
@@ -57,7 +57,8 @@ fn lanes(plan: &Plan) -> String {
         r##"a class="skip" href="#words""##,
         "Go on to the same in words",
     );
-    element("section", &(heading + &skip + &lanes::area(plan)))
+    let hints = legend::hints(plan);
+    element("section", &(heading + &hints + &skip + &lanes::area(plan)))
 }
 
 /// The lanes alone, as an SVG file. For small lines: it is as large as they are.

@@ -11,16 +11,16 @@ use crate::page::short;
 use crate::page::tone::Tone;
 use crate::run::{Round, Seen};
 
-/// The heading with the phases' numbers, and the space between two phases.
-const HEAD: u32 = 22;
+/// The heading with the numbers of phases and rounds, and the space between two phases.
+const HEAD: u32 = 38;
 const GAP: u32 = 4;
 
-const WORDS: &str = "Every controller in every round: blue for bit 0, orange for bit 1. A \
-                     faulty one's cells have what it told, in stripes where it told them different \
-                     things: grey without a bit, hatched what counts for nothing, blank where it \
-                     was silent. Framed in gold: the king of the phase, with a broken frame if only \
-                     some name it. Framed in the colour of the text: the decision. The lanes below \
-                     have it in words.";
+const WORDS: &str =
+    "Every controller in every round: blue for bit 0, orange for bit 1. A faulty one's cells \
+    have what it told others, in stripes where that differed: grey without a bit, hatched \
+    what counts for nothing, blank where it was silent or nobody listens any more. Framed in \
+    gold: the king of the phase, with a broken frame if only some name it. Framed in black, \
+    or in white on a dark page: the decision. The lanes below have it in words.";
 
 /// How large the cells are: all of a run is to be seen at once.
 struct Grid {
@@ -87,19 +87,35 @@ pub fn glance(plan: &Plan) -> String {
     let size = format!(r#"width="{width}" height="{height}" viewBox="0 0 {width} {height}""#);
     let open = format!(r#"svg class="glance" role="img" aria-label="{WORDS}" {size}"#);
     let drawn = element(&open, &inner);
+    let area = r#"div class="wide" role="region" aria-label="At a glance" tabindex="0""#;
     element(
         "section",
-        &(text("h2", "At a glance") + &drawn + &text(r#"p class="hint""#, WORDS)),
+        &(text("h2", "At a glance") + &element(area, &drawn) + &text(r#"p class="hint""#, WORDS)),
     )
 }
 
-/// The numbers of the phases, or of every fifth.
+/// The numbers of phases and rounds; where the cells are small, of every fifth phase and of
+/// the round in which it begins.
 fn heads(grid: &Grid, last: u32) -> String {
-    let mut out = text(r#"text class="soft" x="12" y="14""#, "phase");
-    let each = if 3 * grid.cell >= 24 { 1 } else { 5 };
-    for phase in (0..last / 3).step_by(each) {
+    let mut out = text(r#"text class="soft" x="12" y="14""#, "phase")
+        + &text(r#"text class="soft" x="12" y="31""#, "round");
+    let large = grid.cell >= 16;
+    for phase in (0..last / 3).step_by(if large { 1 } else { 5 }) {
         let x = grid.x(3 + 3 * phase) + 2;
         out += &text(&format!(r#"text x="{x}" y="14""#), &phase.to_string());
+    }
+    let starts = (0..last / 3).step_by(5).map(|phase| 3 + 3 * phase);
+    let rounds: Vec<u32> = if large {
+        (1..=last).collect()
+    } else {
+        starts.collect()
+    };
+    for round in rounds {
+        let x = grid.x(round) + 2;
+        out += &text(
+            &format!(r#"text class="soft" x="{x}" y="31""#),
+            &round.to_string(),
+        );
     }
     out
 }

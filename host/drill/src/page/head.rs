@@ -15,6 +15,15 @@ pub fn title<'a>(run: &'a Run) -> &'a str {
     remarks(run).next().unwrap_or("A drill")
 }
 
+/// What is going on, for who has never seen a line settle anything.
+const ABOUT: &str =
+    "They must all settle the same bit, 0 or 1: by which of two plans the wave runs. They \
+    talk in rounds, and three rounds make a phase. First each tells its bit, then each \
+    proposes the bit that two thirds told it, and then one of them, the king of the phase, \
+    tells its opinion: whoever has not heard two thirds propose its own bit takes the \
+    king's. Nobody knows who is faulty, so the turn to be king goes round. Where fewer than \
+    a third are faulty, all decide alike, by the limit at the latest.";
+
 pub fn head(run: &Run) -> String {
     let notes: String = remarks(run).skip(1).map(note).collect();
     let line = members(run).iter().map(|line| text("p", line)).collect();
@@ -31,6 +40,7 @@ pub fn head(run: &Run) -> String {
         notes,
         banner(run),
         line,
+        text("p", ABOUT),
         text("h2", "What happened"),
         element(&format!(r#"ul class="{class}""#), &sentences),
     ];

@@ -1,0 +1,145 @@
+//! How the bits of the correct ones moved, phase by phase, until all held one.
+
+use std::collections::BTreeMap;
+
+use crate::facts::{kings, united};
+use crate::run::{Round, Run};
+use crate::words::short_named;
+
+/// The most phases that are told one by one; of more the first and the last few.
+const MOST_PHASES: usize = 6;
+const FIRST_PHASES: usize = 3;
+
+pub fn phases(run: &Run) -> Vec<String> {
+    let united = united(run);
+    let bit = run.last().correct[0].state.bit;
+    if united.is_some_and(|round| round.round == 1) {
+        return vec![format!(
+            "All correct ones brought {bit} in, and held it throughout."
+        )];
+    }
+    // A phase moves bits in the making of its turn and of the value after it.
+    let last = united.unwrap_or(run.last()).round.saturating_sub(5) / 3;
+    let mut lines: Vec<String> = (0..=last).map(|phase| told(run, phase)).collect();
+    if lines.len() > MOST_PHASES {
+        let behind = lines.len() - (MOST_PHASES - FIRST_PHASES);
+        let between = format!("Phases {FIRST_PHASES} to {} did not settle it.", behind - 1);
+        lines.splice(FIRST_PHASES..behind, [between]);
+    }
+    match united {
+        Some(_) => lines.extend(sure(run, bit)),
+        None => lines.push("The correct ones never came to hold one bit.".into()),
+    }
+    lines
+}
+
+/// Who was king in a phase, who changed its bit by what, and who held what after it.
+fn told(run: &Run, phase: u32) -> String {
+    let round = |round: u32| &run.rounds[(round as usize - 1).min(run.rounds.len() - 1)];
+    let (turn, after) = (round(5 + 3 * phase), round(6 + 3 * phase));
+    let mut moves = by_proposals(round(4 + 3 * phase), turn);
+    moves.extend(by_kings(turn, after));
+    if moves.is_empty() {
+        moves.push("nobody changed its bit".into());
+    }
+    let kings = named_kings(run, phase);
+    format!(
+        "Phase {phase}, {kings}: {}. {}",
+        moves.join("; "),
+        held(run, after)
+    )
+}
+
+fn named_kings(run: &Run, phase: u32) -> String {
+    let kings = kings(run, phase);
+    let all = kings.len();
+    let king = |(king, by): (u32, Vec<u32>)| {
+        let faulty = if run.scenario.faulty.contains(&king) {
+            ", faulty"
+        } else {
+            ""
+        };
+        match all {
+            1 => format!("king {king}{faulty}"),
+            _ => format!("king {king}{faulty}, for {}", short_named(&by)),
+        }
+    };
+    let named: Vec<String> = kings.into_iter().map(king).collect();
+    named.join(", and ")
+}
+
+/// Those whose bit changed in the making of a round, by a key of their state before it
+/// and by the new bit.
+fn changed(before: &Round, after: &Round) -> BTreeMap<(u32, u8), Vec<u32>> {
+    let mut changed: BTreeMap<(u32, u8), Vec<u32>> = BTreeMap::new();
+    for (was, is) in before.correct.iter().zip(&after.correct) {
+        let (was, is) = (&was.state, &is.state);
+        if was.bit != is.bit {
+            changed
+                .entry((was.king, is.bit))
+                .or_default()
+                .push(is.number);
+        }
+    }
+    changed
+}
+
+fn by_proposals(before: &Round, turn: &Round) -> Vec<String> {
+    let mut to: BTreeMap<u8, Vec<u32>> = BTreeMap::new();
+    for ((_, bit), who) in changed(before, turn) {
+        to.entry(bit).or_default().extend(who);
+    }
+    let line = |(bit, mut who): (u8, Vec<u32>)| {
+        who.sort_unstable();
+        format!(
+            "{} heard a third propose {bit}, and took it",
+            short_named(&who)
+        )
+    };
+    to.into_iter().map(line).collect()
+}
+
+fn by_kings(turn: &Round, after: &Round) -> Vec<String> {
+    let line = |((king, bit), who): ((u32, u8), Vec<u32>)| {
+        format!("{} took {bit} from king {king}", short_named(&who))
+    };
+    changed(turn, after).into_iter().map(line).collect()
+}
+
+/// Who holds which bit in a round.
+fn held(run: &Run, round: &Round) -> String {
+    let [zero, one] = [0, 1].map(|bit| -> Vec<u32> {
+        let holding = round.correct.iter().filter(|seen| seen.state.bit == bit);
+        holding.map(|seen| seen.state.number).collect()
+    });
+    match (united(run), zero.is_empty() || one.is_empty()) {
+        (Some(from), true) if from.round <= round.round => {
+            let bit = from.correct[0].state.bit;
+            format!("From round {} on all held {bit}.", from.round)
+        }
+        (_, true) => format!(
+            "Then all held {}, but not for good.",
+            u8::from(zero.is_empty())
+        ),
+        _ => format!(
+            "Then {} held 0, {} held 1.",
+            short_named(&zero),
+            short_named(&one)
+        ),
+    }
+}
+
+/// Why that is for good, where it is promised.
+fn sure(run: &Run, bit: u8) -> Option<String> {
+    let (correct, faulty) = (run.scenario.correct.len(), run.scenario.faulty.len());
+    let others = match faulty {
+        1 => "the faulty one".into(),
+        _ => format!("the {faulty} faulty ones"),
+    };
+    let size = run.scenario.size();
+    let line = format!(
+        "{correct} of {size} are on {bit} then, two thirds and more. So each is sure of its bit, \
+         and follows no king against it: {others} cannot change that."
+    );
+    (run.scenario.is_promised() && faulty > 0).then_some(line)
+}
