@@ -3,16 +3,16 @@
 use crate::run::Rule;
 
 pub const USAGE: &str = "\
-usage: drill [SCENARIO] [--page FILE] [--rule printed] [--worst N] [--width N]
+usage: drill [SCENARIO] [--page F.html] [--rule printed] [--worst N] [--width N]
 
 SCENARIO is a file, - for standard input, or a name from the list below.
-  --page FILE     also write a page with a picture of it; FILE.svg: the picture alone
+  --page F.html   also write a page with pictures of it; F.svg: the picture of the lanes alone
   --rule printed  the correct ones stop as the published method prints it, when a king is
                   named twice; on the reference, not on the engine
   --worst N       try N random liars on the scenario's line and print, as a scenario, the one
                   by which it decides last or breaks: drill --worst 1000 incident | drill -
   --width N       so many columns wide; else as wide as the terminal
-It ends with 0 if the correct ones agree, 1 if not, 2 if something is wrong with SCENARIO.
+It ends with 0 if the correct ones agree, 1 if that is broken, 2 if nothing was run.
 docs/DRILL.md says how to write a scenario. These come with the drill:
 ";
 
@@ -55,7 +55,7 @@ impl Arguments {
         let mut value = || rest.next().ok_or(wrong(&format!("{word} lacks its value")));
         match word {
             "--help" | "-h" => self.help = true,
-            "--page" => self.page = Some(value()?.clone()),
+            "--page" => self.page = Some(page(value()?)?),
             "--rule" => match value()?.as_str() {
                 "printed" => self.rule = Rule::Printed,
                 other => return Err(wrong(&format!("--rule {other}: there is only printed"))),
@@ -69,6 +69,16 @@ impl Arguments {
             _ => self.scenario = Some(word.into()),
         }
         Ok(())
+    }
+}
+
+/// A page's name says what it is, so that no scenario is written over.
+fn page(file: &str) -> Result<String, String> {
+    match file.ends_with(".html") || file.ends_with(".svg") {
+        true => Ok(file.into()),
+        false => Err(wrong(&format!(
+            "--page {file}: a name in .html or .svg is wanted"
+        ))),
     }
 }
 

@@ -1,57 +1,58 @@
 //! What is read off a run: what was told whom, who was king, from when on all held one bit,
 //! and how each one ended.
 
-use std::collections::BTreeMap;
+use std::collections::{BTreeMap, BTreeSet};
 use std::fmt::{self, Display, Formatter};
 
 use checks::packing::{kind_of, numbers_in, INIT, NONE, PROPOSE, ROSTER, VALUE};
 
 use crate::run::{Round, Run, Seen};
 use crate::scenario::Saying;
-use crate::words::AND;
 
-/// What was sent or told in a round, as it reads there: no frame, one, or several.
+/// What bytes are to who expects a frame of a round.
 #[derive(Clone, Debug, PartialEq, Eq)]
-pub struct Told(pub Vec<Saying>);
+pub enum Reading {
+    /// A frame that says something.
+    Says(Saying),
+    /// No bytes at all.
+    Empty,
+    /// Void under 11.
+    WrongLength,
+    /// Void under 12: of another round or kind.
+    Stale,
+    /// Void under 13.
+    Garbled,
+}
 
-impl Told {
-    pub fn of(frames: &[Vec<u8>], round: u32) -> Told {
-        Told(frames.iter().map(|bytes| reading(bytes, round)).collect())
+impl Reading {
+    fn of(bytes: &[u8], round: u32) -> Reading {
+        match engine::frame(bytes, round) {
+            0 => Reading::Says(said(bytes, round)),
+            _ if bytes.is_empty() => Reading::Empty,
+            11 => Reading::WrongLength,
+            12 => Reading::Stale,
+            _ => Reading::Garbled,
+        }
     }
 
-    /// What a controller sent to all; it sends a frame.
-    pub fn sent(bytes: &[u8], round: u32) -> Told {
-        Told(vec![reading(bytes, round)])
-    }
-
-    /// The words with long lists by their counts.
-    pub fn short(&self) -> String {
-        self.joined(Saying::short)
-    }
-
-    fn joined(&self, words: impl Fn(&Saying) -> String) -> String {
-        let each: Vec<String> = self.0.iter().map(words).collect();
-        match each.is_empty() {
-            true => Saying::Silent.to_string(),
-            false => each.join(AND),
+    /// The words with a long list by its count.
+    fn short(&self) -> String {
+        match self {
+            Reading::Says(saying) => saying.short(),
+            void => void.to_string(),
         }
     }
 }
 
-impl Display for Told {
+impl Display for Reading {
     fn fmt(&self, f: &mut Formatter) -> fmt::Result {
-        f.write_str(&self.joined(Saying::to_string))
-    }
-}
-
-/// What bytes say to who expects a frame of a round.
-fn reading(bytes: &[u8], round: u32) -> Saying {
-    match engine::frame(bytes, round) {
-        0 => said(bytes, round),
-        _ if bytes.is_empty() => Saying::Empty,
-        11 => Saying::Cut,
-        12 => Saying::Stale,
-        _ => Saying::Garbled,
+        match self {
+            Reading::Says(saying) => saying.fmt(f),
+            Reading::Empty => f.write_str("empty"),
+            Reading::WrongLength => f.write_str("wrong length"),
+            Reading::Stale => f.write_str("stale"),
+            Reading::Garbled => f.write_str("garbled"),
+        }
     }
 }
 
@@ -65,6 +66,41 @@ fn said(bytes: &[u8], round: u32) -> Saying {
         PROPOSE => Saying::Propose(bit),
         _ if bit == NONE => Saying::Lists(list),
         _ => Saying::Opinion(bit, list),
+    }
+}
+
+/// What was sent or told in a round, as it reads there: no frame, one, or several.
+#[derive(Clone, Debug, PartialEq, Eq)]
+pub struct Told(pub Vec<Reading>);
+
+impl Told {
+    pub fn of(frames: &[Vec<u8>], round: u32) -> Told {
+        let frames = frames.iter();
+        Told(frames.map(|bytes| Reading::of(bytes, round)).collect())
+    }
+
+    /// What a controller sent to all; it sends a frame.
+    pub fn sent(bytes: &[u8], round: u32) -> Told {
+        Told(vec![Reading::of(bytes, round)])
+    }
+
+    /// The words with long lists by their counts.
+    pub fn short(&self) -> String {
+        self.joined(Reading::short)
+    }
+
+    fn joined(&self, words: impl Fn(&Reading) -> String) -> String {
+        let each: Vec<String> = self.0.iter().map(words).collect();
+        match each.is_empty() {
+            true => Saying::Silent.to_string(),
+            false => each.join(" and "),
+        }
+    }
+}
+
+impl Display for Told {
+    fn fmt(&self, f: &mut Formatter) -> fmt::Result {
+        f.write_str(&self.joined(Reading::to_string))
     }
 }
 
@@ -105,14 +141,12 @@ pub fn kings(run: &Run, phase: u32) -> BTreeMap<u32, Vec<u32>> {
     kings
 }
 
-/// The first round from which on all correct ones hold the same bit, if there is one.
+/// The first round from which on all correct ones hold the bit that they end with, if they
+/// end with the same.
 pub fn united<'a>(run: &'a Run) -> Option<&'a Round> {
-    let alike = |round: &&Round| {
-        let mut bits = round.correct.iter().map(|seen| seen.state.bit);
-        let first = bits.next();
-        bits.all(|bit| Some(bit) == first)
-    };
-    run.rounds.iter().rev().take_while(alike).last()
+    let bit = run.last().correct[0].state.bit;
+    let hold = |round: &&Round| round.correct.iter().all(|seen| seen.state.bit == bit);
+    run.rounds.iter().rev().take_while(hold).last()
 }
 
 /// How one correct controller ended.
@@ -131,4 +165,31 @@ pub fn endings(run: &Run) -> Vec<Ending> {
         round: seen.state.round,
     };
     run.last().correct.iter().map(ending).collect()
+}
+
+/// The lines of the text with an order that was never followed: the run was over by then, or
+/// later orders speak of the same.
+pub fn idle(run: &Run) -> BTreeSet<usize> {
+    let scenario = run.scenario;
+    let mut followed = vec![false; scenario.orders.len()];
+    for round in 1..run.last().round {
+        let now: Vec<usize> = (0..scenario.orders.len())
+            .filter(|&place| scenario.orders[place].rounds.contains(&round))
+            .collect();
+        for &to in &scenario.numbers() {
+            for &from in scenario.faulty.iter().filter(|&&from| from != to) {
+                let tells = |&&place: &&usize| scenario.orders[place].told(from, to).is_some();
+                if let Some(&latest) = now.iter().rev().find(tells) {
+                    followed[latest] = true;
+                }
+            }
+            let junk = now
+                .iter()
+                .filter(|&&place| scenario.orders[place].junk(to).is_some());
+            junk.for_each(|&place| followed[place] = true);
+        }
+    }
+    let orders = scenario.orders.iter().zip(followed);
+    let idle = orders.filter(|(_, followed)| !followed);
+    idle.map(|(order, _)| order.line).collect()
 }

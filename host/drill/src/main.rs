@@ -33,7 +33,7 @@ fn main() -> ExitCode {
 fn drill(words: &[String]) -> Result<bool, String> {
     let arguments = Arguments::read(words)?;
     if arguments.help {
-        print(&format!("{USAGE}\n{}", bundled::listing()));
+        print(&format!("{USAGE}\n{}", bundled::listing()))?;
         return Ok(true);
     }
     let name = arguments.scenario.as_deref().unwrap_or(bundled::FIRST);
@@ -45,10 +45,10 @@ fn drill(words: &[String]) -> Result<bool, String> {
     }
     let run = run(&scenario, arguments.rule).map_err(|mistake| wrong(&[mistake]))?;
     save(&run, &text, arguments.page.as_deref())?;
-    print(&table::shown(&run, width(&arguments), has_colour()));
+    print(&table::shown(&run, width(&arguments), has_colour()))?;
     if words.is_empty() {
         let more = "What else there is";
-        print(&format!("\n{more}:\n\n{USAGE}\n{}", bundled::listing()));
+        print(&format!("\n{more}:\n\n{USAGE}\n{}", bundled::listing()))?;
     }
     Ok(verdict(&run).agreed)
 }
@@ -62,28 +62,29 @@ fn search(line: &Scenario, tries: u64, arguments: &Arguments) -> Result<bool, St
     let text = write::write(&worst);
     let run = run(&worst, arguments.rule).expect("a plan has no junk");
     save(&run, &text, arguments.page.as_deref())?;
-    print(&text);
+    print(&text)?;
     Ok(verdict(&run).agreed)
 }
 
 /// A scenario's text: standard input, one that comes with the drill, or a file.
 fn text(name: &str) -> Result<String, String> {
-    if name == "-" {
-        let mut text = String::new();
-        let read = io::stdin().read_to_string(&mut text);
-        return read
-            .map(|_| text)
-            .map_err(|error| format!("standard input: {error}\n"));
+    if let Some(text) = bundled::text(name) {
+        return Ok(text.into());
     }
-    match bundled::text(name) {
-        Some(text) => Ok(text.into()),
-        None => fs::read_to_string(name).map_err(|error| {
-            format!(
-                "{name}: {error}\nThese scenarios come with the drill:\n{}",
-                bundled::listing()
-            )
-        }),
-    }
+    let mut bytes = Vec::new();
+    let read = match name {
+        "-" => io::stdin().read_to_end(&mut bytes).map(|_| bytes),
+        _ => fs::read(name),
+    };
+    let bytes = read.map_err(|error| {
+        let known = bundled::listing();
+        format!("{name}: {error}\nThese scenarios come with the drill:\n{known}")
+    })?;
+    String::from_utf8(bytes).map_err(|error| {
+        let good = &error.as_bytes()[..error.utf8_error().valid_up_to()];
+        let line = 1 + good.iter().filter(|&&byte| byte == b'\n').count();
+        format!("{name}, line {line}: this is no text in UTF-8\n")
+    })
 }
 
 /// Writes the page, or the picture alone if the file's name ends so.
@@ -98,14 +99,22 @@ fn save(run: &Run, text: &str, file: Option<&str>) -> Result<(), String> {
     Ok(())
 }
 
-/// Who reads the output may stop reading.
-fn print(text: &str) {
-    let _ = io::stdout().write_all(text.as_bytes());
+/// Who reads the output may stop reading, which is no failure.
+fn print(text: &str) -> Result<(), String> {
+    let mut out = io::stdout();
+    let written = out.write_all(text.as_bytes()).and_then(|()| out.flush());
+    match written {
+        Err(error) if error.kind() != io::ErrorKind::BrokenPipe => {
+            Err(format!("standard output: {error}\n"))
+        }
+        _ => Ok(()),
+    }
 }
 
 fn has_colour() -> bool {
     let unset = env::var_os("NO_COLOR").is_none_or(|value| value.is_empty());
-    unset && io::stdout().is_terminal()
+    let plain = env::var_os("TERM").is_some_and(|term| term == "dumb");
+    unset && !plain && io::stdout().is_terminal()
 }
 
 /// The width asked for, or the terminal's.

@@ -12,6 +12,9 @@ use deeds::{deed, deed_form};
 use tokens::{tokens, Token, Words};
 use when::when;
 
+/// What a line of a scenario can begin with.
+const HEADS: &str = "line, faulty, round, rounds, from, always, seed";
+
 type Parsed<T> = Result<T, Mistake>;
 
 /// The scenario, or the mistakes of its text, at most one for each line.
@@ -30,19 +33,16 @@ pub fn parse(text: &str) -> Result<Scenario, Vec<Mistake>> {
             .filter(|(_, words)| !words.is_empty());
         numbered.map(|(i, words)| Words::of(i + 1, words))
     };
-    let is_member = |words: &Words| matches!(words.peek(), Some("line" | "faulty"));
-    let mut member = |mut words: Words| match words.peek() {
-        Some("line") => members::correct(&mut words, &mut scenario).err(),
-        _ => members::faulty(&mut words, &mut scenario).err(),
-    };
-    let mut mistakes: Vec<Mistake> = lines().filter(is_member).filter_map(&mut member).collect();
+    // Orders name members, so that they are read only where the members are known.
+    let mut mistakes: Vec<Mistake> = lines()
+        .filter_map(|mut words| member(&mut words, &mut scenario).err())
+        .collect();
     if mistakes.is_empty() && scenario.correct.is_empty() {
         let what = "nobody on the line is correct";
         mistakes.push(Mistake::of_text(what, "line 5=1 7=0 9=1"));
     }
-    // Orders name members, so that they are read only where the members are known.
     if mistakes.is_empty() {
-        let orders = lines().filter(|words| !is_member(words));
+        let orders = lines().filter(|words| when::is_head(words.peek()));
         mistakes.extend(orders.filter_map(|mut words| orders_of(&mut words, &mut scenario).err()));
     }
     match mistakes.is_empty() {
@@ -51,10 +51,24 @@ pub fn parse(text: &str) -> Result<Scenario, Vec<Mistake>> {
     }
 }
 
-/// The remarks in front of everything else.
+/// The remarks in front of everything else, without what would steer a terminal.
 fn heading(text: &str) -> Vec<String> {
     let remarks = text.lines().map_while(|line| line.strip_prefix('#'));
-    remarks.map(|remark| remark.trim().to_string()).collect()
+    let plain = |remark: &str| remark.replace(char::is_control, " ");
+    remarks.map(|remark| plain(remark).trim().into()).collect()
+}
+
+/// Reads a line that says who is on the line, and passes over one with orders.
+fn member(words: &mut Words, scenario: &mut Scenario) -> Parsed<()> {
+    match words.peek() {
+        Some("line") => members::correct(words, scenario),
+        Some("faulty") => members::faulty(words, scenario),
+        head if when::is_head(head) => Ok(()),
+        head => {
+            let what = format!("no line begins with `{}`", head.unwrap_or_default());
+            Err(words.at_next(what, HEADS))
+        }
+    }
 }
 
 /// `round 3  3 tells 5: value 0  3 tells 7 9: value 1`.

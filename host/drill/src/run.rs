@@ -89,6 +89,8 @@ struct Line<'a> {
     correct: Vec<Controller>,
     /// Behind each faulty card.
     behind: Vec<Controller>,
+    /// The orders of the present round.
+    orders: Vec<&'a Order>,
 }
 
 impl<'a> Line<'a> {
@@ -105,6 +107,7 @@ impl<'a> Line<'a> {
             behind: faulty
                 .map(|n| Controller::start(rule, *n, behind(n)))
                 .collect(),
+            orders: scenario.in_round(1),
         }
     }
 
@@ -148,6 +151,7 @@ impl<'a> Line<'a> {
             }
         }
         self.round += 1;
+        self.orders = self.scenario.in_round(self.round);
         Ok(seen)
     }
 
@@ -178,7 +182,9 @@ impl<'a> Line<'a> {
         if from == to {
             return Vec::new();
         }
-        let Some((order, sayings)) = self.scenario.told(round, from, to) else {
+        let mut latest = self.orders.iter().rev();
+        let told = latest.find_map(|order| Some((*order, order.told(from, to)?)));
+        let Some((order, sayings)) = told else {
             return Vec::new();
         };
         let telling = Telling {
@@ -201,7 +207,10 @@ impl<'a> Line<'a> {
     fn hand_junk(&mut self, place: usize, tray: &[u8]) -> Result<Vec<u8>, Mistake> {
         let (round, one) = (self.round, &mut self.correct[place]);
         let mut refusals = Vec::new();
-        for (order, junk) in self.scenario.junk(round, one.number) {
+        for &order in &self.orders {
+            let Some(junk) = order.junk(one.number) else {
+                continue;
+            };
             let mut random = chance(order, [round, 0, one.number]);
             match one.hand(&junk::bytes(junk, &mut random, round, one.number, tray)) {
                 0 => return Err(no_junk(order, one.number, round)),

@@ -167,27 +167,29 @@ impl Scenario {
         self.correct.keys().chain(&self.faulty).copied().collect()
     }
 
-    /// What a faulty one is to tell another in a round, and the order that says so.
-    pub fn told(&self, round: u32, from: u32, to: u32) -> Option<(&Order, &[Saying])> {
-        let told = |order: &&Order| order.rounds.contains(&round);
-        let mut now = self.orders.iter().rev().filter(told);
-        now.find_map(|order| match &order.deed {
+    /// The orders of a round, in the order of the text.
+    pub fn in_round(&self, round: u32) -> Vec<&Order> {
+        let now = |order: &&Order| order.rounds.contains(&round);
+        self.orders.iter().filter(now).collect()
+    }
+}
+
+impl Order {
+    /// What a faulty one is to tell another, if this order speaks of it.
+    pub fn told(&self, from: u32, to: u32) -> Option<&[Saying]> {
+        match &self.deed {
             Deed::Tells { who, whom, what } if who.is_none_or(|w| w == from) && whom.has(to) => {
-                Some((order, what.as_slice()))
+                Some(what)
             }
             _ => None,
-        })
+        }
     }
 
-    /// The junk that one gets in a round, in the order of the text.
-    pub fn junk(&self, round: u32, to: u32) -> impl Iterator<Item = (&Order, &Junk)> {
-        self.orders
-            .iter()
-            .filter_map(move |order| match &order.deed {
-                Deed::Junk { whom, junk } if order.rounds.contains(&round) && whom.has(to) => {
-                    Some((order, junk))
-                }
-                _ => None,
-            })
+    /// The junk that one gets by this order.
+    pub fn junk(&self, to: u32) -> Option<&Junk> {
+        match &self.deed {
+            Deed::Junk { whom, junk } if whom.has(to) => Some(junk),
+            _ => None,
+        }
     }
 }

@@ -6,7 +6,7 @@ mod phases;
 
 use std::collections::{BTreeMap, BTreeSet};
 
-use crate::facts::endings;
+use crate::facts::{endings, idle};
 use crate::run::{Rule, Run, Seen};
 use crate::words::{named, phase, short_named, times};
 use lies::lies;
@@ -48,6 +48,7 @@ pub fn story(run: &Run) -> Vec<String> {
     lines.extend(stops(run));
     lines.extend(refusals(run));
     lines.extend(late(run));
+    lines.extend(unheeded(run));
     lines
 }
 
@@ -125,4 +126,19 @@ fn late(run: &Run) -> Vec<String> {
         format!("{number} was first heard {}.", parts.join(", "))
     };
     heard.into_iter().map(line).collect()
+}
+
+/// The lines of the scenario that did nothing, which is mostly a slip.
+fn unheeded(run: &Run) -> Option<String> {
+    let lines: Vec<u32> = idle(run).into_iter().map(|line| line as u32).collect();
+    let (line, was) = match lines.len() {
+        0 => return None,
+        1 => ("Line", "was"),
+        _ => ("Lines", "were"),
+    };
+    Some(format!(
+        "{line} {} of the scenario {was} not followed, or not all of it: the run was over by then, \
+         or a later line says otherwise.",
+        named(&lines)
+    ))
 }

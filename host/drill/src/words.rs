@@ -27,8 +27,6 @@ fn run((first, last): (u32, u32)) -> String {
     }
 }
 
-/// Between the frames of one that sent several.
-pub const AND: &str = " and ";
 /// From how many characters on numbers are shown by their count.
 const LONG: usize = 40;
 
@@ -86,10 +84,10 @@ pub fn phase(round: u32) -> Option<u32> {
 pub fn allowed(round: u32) -> String {
     let own = match kind_of(round) {
         INIT => "init",
-        ROSTER => "lists 3 5",
+        ROSTER => "lists 3 5, lists nothing",
         VALUE => "value 0, value 1",
         PROPOSE => "propose 0, propose 1, propose none",
-        TURN => "lists 3 5, opinion 0, opinion 1 lists 3 5",
+        TURN => "lists 3 5, lists nothing, opinion 0, opinion 1 lists 3 5",
         _ => "",
     };
     format!("{own}, {ALWAYS_ALLOWED}")
@@ -97,7 +95,7 @@ pub fn allowed(round: u32) -> String {
 
 /// The words for what can be told in any round.
 pub const ALWAYS_ALLOWED: &str = "bit 0, bit 1, honest, garbled, stale, cut, empty, silent, \
-                                  twice, repeats 5, anything, bytes 00 ff";
+                                  twice, repeats 5, anything, bytes 00 ff; or two with and";
 
 /// The words for junk.
 pub const JUNK_ALLOWED: &str = "noise, cut, old, forged, crowd, bytes 00 ff";

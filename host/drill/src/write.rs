@@ -12,10 +12,9 @@ pub fn write(scenario: &Scenario) -> String {
     for remark in &scenario.heading {
         let _ = writeln!(out, "# {remark}");
     }
-    let members = scenario.correct.iter();
-    let members: Vec<String> = members
-        .map(|(number, bit)| format!("{number}={bit}"))
-        .collect();
+    let correct: Vec<(u32, u8)> = scenario.correct.iter().map(|(&n, &bit)| (n, bit)).collect();
+    let runs = correct.chunk_by(|a, b| a.0 + 1 == b.0 && a.1 == b.1);
+    let members: Vec<String> = runs.map(member).collect();
     let _ = writeln!(out, "line {}", members.join(" "));
     if !scenario.faulty.is_empty() {
         let _ = writeln!(out, "faulty {}", numbers(&scenario.faulty));
@@ -26,6 +25,17 @@ pub fn write(scenario: &Scenario) -> String {
         let _ = writeln!(out, "{:<13} {}", when(&together[0]), deeds.join("   "));
     }
     out
+}
+
+/// Neighbours that bring the same bit in.
+fn member(run: &[(u32, u8)]) -> String {
+    match run {
+        [(first, bit), .., (last, _)] => format!("{first}-{last}={bit}"),
+        _ => run
+            .iter()
+            .map(|(number, bit)| format!("{number}={bit}"))
+            .collect(),
+    }
 }
 
 /// Whether two orders are of the same rounds and the same one.

@@ -83,13 +83,15 @@ fn a_wrong_scenario_ends_with_2_and_nothing_is_run() {
     let output = drill_with(&["-"], "line 5=1 5=0\n");
     assert_eq!((output.status.code(), out(&output)), (WRONG, String::new()));
     assert!(error(&output).starts_with("-, line 1: 5 is on the line twice\n"));
+    let output = drill(&["no-such-file"]);
+    assert_eq!((output.status.code(), out(&output)), (WRONG, String::new()));
+    assert!(error(&output).contains("  incident "), "{}", error(&output));
     let not_text = temporary("not_text");
-    fs::write(&not_text, [0xff, 0xfe, 0]).expect("a file");
-    for words in [&["no-such-file"][..], &[not_text.to_str().expect("a name")]] {
-        let output = drill(words);
-        assert_eq!((output.status.code(), out(&output)), (WRONG, String::new()));
-        assert!(error(&output).contains("  incident "), "{}", error(&output));
-    }
+    fs::write(&not_text, b"line 5=1\n\xff\n").expect("a file");
+    let output = drill(&[not_text.to_str().expect("a name")]);
+    assert_eq!((output.status.code(), out(&output)), (WRONG, String::new()));
+    let what = ", line 2: this is no text in UTF-8\n";
+    assert!(error(&output).ends_with(what), "{}", error(&output));
 }
 
 /// Bytes from the cable that are a tray of the round would be worked.
@@ -105,7 +107,7 @@ fn junk_that_is_a_tray_is_a_mistake() {
 
 #[test]
 fn wrong_words_end_with_2() {
-    let wrong: [(&[&str], &str); 8] = [
+    let wrong: [(&[&str], &str); 9] = [
         (&["--wrost", "3"], "--wrost is unknown"),
         (&["--worst"], "--worst lacks its value"),
         (&["--worst", "0"], "--worst 0: a number from 1"),
@@ -116,6 +118,10 @@ fn wrong_words_end_with_2() {
         ),
         (&["incident", "flood"], "flood: one scenario at a time"),
         (&["--page"], "--page lacks its value"),
+        (
+            &["--page", "mine.txt"],
+            "--page mine.txt: a name in .html or .svg is wanted",
+        ),
         (
             &["--page", "/no/such/folder/page.html"],
             "/no/such/folder/page.html: ",

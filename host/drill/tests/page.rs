@@ -374,7 +374,7 @@ fn takes_a_users_text_as_text() {
         let page = page(run, text);
         elements(&page);
         elements(&picture(run));
-        let title = "&lt;script&gt;alert(&quot;x&quot;)&lt;/script&gt; &amp; 'more' \u{fffd}";
+        let title = "&lt;script&gt;alert(&quot;x&quot;)&lt;/script&gt; &amp; 'more'";
         assert!(
             page.contains(&format!("<title>{title}</title>")),
             "the title"

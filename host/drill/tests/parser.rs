@@ -61,6 +61,13 @@ fn told(text: &str) -> Vec<Saying> {
     }
 }
 
+/// What 3 is to tell one in a round, and in which line of the text that stands.
+fn told_in(scenario: &Scenario, round: u32, to: u32) -> Option<(usize, Vec<Saying>)> {
+    let orders = scenario.in_round(round);
+    let mut latest = orders.iter().rev();
+    latest.find_map(|order| Some((order.line, order.told(3, to)?.to_vec())))
+}
+
 #[test]
 fn every_form_reads() {
     let scenario = parse(FORMS).expect("the forms");
@@ -68,8 +75,7 @@ fn every_form_reads() {
     assert_eq!(scenario.orders.len(), 7);
     let last = &scenario.orders[6];
     assert_eq!((last.seed, last.rounds.clone()), (17, 1..=194));
-    let (order, what) = scenario.told(3, 3, 7).expect("an order");
-    assert_eq!((order.line, what), (10, &[Saying::Anything][..]));
+    assert_eq!(told_in(&scenario, 3, 7), Some((10, vec![Saying::Anything])));
 }
 
 #[test]
@@ -114,6 +120,10 @@ fn whom_it_is_told() {
     assert_eq!(whom("always 3 tells all: silent"), Whom::All);
     assert_eq!(whom("always 3 tells each: anything"), Whom::Each);
     assert_eq!(
+        whom("always 3 tells all but 5: silent"),
+        Whom::These([7, 9].into())
+    );
+    assert_eq!(
         whom("always 3 tells 5-8: silent"),
         Whom::These([5, 7].into())
     );
@@ -149,11 +159,11 @@ fn deeds_side_by_side() {
 fn a_later_order_counts() {
     let text = format!("{LINE}always 3 plays along\nrounds 4-5 3 tells 5: garbled\n");
     let scenario = parse(&text).expect("a scenario");
-    let said = |round, to| scenario.told(round, 3, to).map(|(_, what)| what.to_vec());
-    assert_eq!(said(4, 5), Some(vec![Saying::Garbled]));
-    assert_eq!(said(4, 7), Some(vec![Saying::Honest]));
-    assert_eq!(said(6, 5), Some(vec![Saying::Honest]));
-    assert_eq!(parse(LINE).expect("a line").told(1, 3, 5), None);
+    let said = |round, to| told_in(&scenario, round, to).map(|(line, _)| line);
+    assert_eq!(said(4, 5), Some(4));
+    assert_eq!(said(4, 7), Some(3));
+    assert_eq!(said(6, 5), Some(3));
+    assert_eq!(told_in(&parse(LINE).expect("a line"), 1, 5), None);
 }
 
 #[test]
@@ -180,6 +190,9 @@ fn mistakes_on_who_is_there() {
     wrong("line 1-64=1\nfaulty 65\n", 2, "one more than 64");
     wrong("line 1-4000000000=1\n", 1, "one more than 64");
     wrong("line 5=1\nlien 7=0\n", 2, "no line begins with `lien`");
+    wrong("LINE 5=1\n", 1, "no line begins with `LINE`");
+    wrong("line 5=1,7=0\n", 1, "`1,7=0` is no bit");
+    wrong("line 5=1\nfaulty 3,4\n", 2, "no commas");
     wrong("line 5=1\n3 tells 5: init\n", 2, "no line begins with `3`");
     wrong(
         "line 5=1\nround 1 3 tells 5: init\n",
@@ -192,7 +205,8 @@ fn mistakes_on_who_is_there() {
 fn mistakes_on_rounds() {
     wrong("round", "the round is missing", "round 3");
     wrong("round x 3 tells 5: init", "`x` is no number", "round 3");
-    wrong("round 0 3 tells 5: init", "`0` is no number", "round 3");
+    wrong("round 0 3 tells 5: init", "`0` is no number", "1 to 194");
+    wrong("from 3 to 8 3 plays along", "from has no end", "rounds 3-8");
     wrong(
         "round 4-8 3 tells 5: silent",
         "these are several",
@@ -224,7 +238,7 @@ fn mistakes_on_deeds() {
         "tells, plays along",
     );
     wrong("round 3 3 plays 7", "after plays stands `7`", "plays along");
-    wrong("round 3 3 plays along with 2", "the bit", "with 0, with 1");
+    wrong("round 3 3 plays along with 2", "`2` is no bit", "with 0, with 1");
     wrong(
         "always 3 plays along with 0 3 plays along with 1",
         "was to be started with 0",
@@ -243,12 +257,12 @@ fn mistakes_on_deeds() {
     );
     wrong(
         "round 3 3 tells 3: value 0",
-        "3 is nobody who can be told",
+        "3 is nobody else on the line",
         "5 7 9",
     );
     wrong(
         "round 3 3 tells 4: value 0",
-        "4 is nobody who can be told",
+        "4 is nobody else on the line",
         "5 7 9",
     );
     wrong("round 3 3 tells 5 5: value 0", "5 is named twice", "5 7 9");
@@ -288,17 +302,17 @@ fn mistakes_on_what_is_told() {
     );
     wrong(
         "round 4 3 tells 5: value 0",
-        "is not of round 4, a propose round",
+        "round 4 is for propose, not for `value 0`",
         "propose 0",
     );
     wrong(
         "rounds 3-5 3 tells 5: value 0",
-        "is not of round 4",
+        "round 4 is for propose",
         "bit 0",
     );
     wrong(
         "round 3 3 tells 5: lists 3",
-        "is not of round 3, a value round",
+        "round 3 is for value, not for `lists 3`",
         "value 0",
     );
     wrong(
@@ -359,7 +373,7 @@ fn all_mistakes_are_shown() {
 x.txt, line 3: `valu` is nothing that can be told
     round 3 3 tells 5: valu 0
                        ^^^^
-  allowed here: value 0, value 1, bit 0, bit 1, honest, garbled, stale, cut, empty, silent, twice, repeats 5, anything, bytes 00 ff
+  allowed here: value 0, value 1, bit 0, bit 1, honest, garbled, stale, cut, empty, silent, twice, repeats 5, anything, bytes 00 ff; or two with and
 x.txt, line 5: 7 is correct, and does as the rules say
     round 5 7 plays along
             ^

@@ -1,6 +1,6 @@
 //! Words cut short to fit a box, whatever the reader's font.
 
-use crate::facts::Told;
+use crate::facts::{Reading, Told};
 use crate::scenario::Saying;
 
 /// About how many pixels wide a text is. Measured by DejaVu Sans, which is wider than most.
@@ -30,8 +30,8 @@ pub fn words(told: &Told, size: u32, room: u32) -> String {
 /// The same without the numbers that it lists.
 fn shorter(told: &Told) -> String {
     match told.0.as_slice() {
-        [Saying::Lists(list)] => format!("a list of {}", list.len()),
-        [Saying::Opinion(bit, _)] => Saying::Opinion(*bit, Vec::new()).to_string(),
+        [Reading::Says(Saying::Lists(list))] => format!("a list of {}", list.len()),
+        [Reading::Says(Saying::Opinion(bit, _))] => Saying::Opinion(*bit, Vec::new()).to_string(),
         [] | [_] => told.to_string(),
         frames => format!("{} frames", frames.len()),
     }

@@ -1,6 +1,6 @@
 //! How what was told is coloured: by the bit in it, or by why there is none.
 
-use crate::facts::Told;
+use crate::facts::{Reading, Told};
 use crate::scenario::Saying;
 
 #[derive(Clone, Copy, Debug, PartialEq, Eq)]
@@ -24,10 +24,12 @@ impl Tone {
         if others.iter().any(|other| other != first) {
             return Tone::Void;
         }
-        match first {
+        let Reading::Says(saying) = first else {
+            return Tone::Void;
+        };
+        match saying {
             Saying::Value(0) | Saying::Propose(0) | Saying::Opinion(0, _) => Tone::Zero,
             Saying::Value(1) | Saying::Propose(1) | Saying::Opinion(1, _) => Tone::One,
-            Saying::Garbled | Saying::Stale | Saying::Cut | Saying::Empty => Tone::Void,
             _ => Tone::Plain,
         }
     }

@@ -75,7 +75,10 @@ fn plays_along(words: &mut Words, scenario: &mut Scenario, who: Option<u32>) -> 
         let bit = match words.take() {
             Some("0") => 0,
             Some("1") => 1,
-            _ => return Err(words.at_last("the bit is missing", "with 0, with 1")),
+            Some(word) => {
+                return Err(words.at_last(format!("`{word}` is no bit"), "with 0, with 1"))
+            }
+            None => return Err(words.at_next("the bit is missing", "with 0, with 1")),
         };
         let every: Vec<u32> = scenario.faulty.iter().copied().collect();
         for number in who.map_or(every, |number| vec![number]) {
@@ -93,25 +96,30 @@ fn plays_along(words: &mut Words, scenario: &mut Scenario, who: Option<u32>) -> 
     })
 }
 
-/// `all:`, `each:` or `5 7-9:`.
+/// `all:`, `all but 5:`, `each:` or `5 7-9:`.
 fn whom(words: &mut Words, scenario: &Scenario, who: Option<u32>) -> Parsed<Whom> {
     let mut numbers = scenario.numbers();
     numbers.retain(|&number| Some(number) != who);
     let form = format!(
-        "all, each, or numbers of the line ({}), then a colon",
+        "all, all but 5, each, or numbers of the line ({}), then a colon",
         words::numbers(&numbers)
     );
-    let whom = match words.peek() {
-        Some("all") => Whom::All,
-        Some("each") => Whom::Each,
-        _ => {
-            let these = receivers(words, &numbers, &form)?;
-            return Ok(Whom::These(these));
+    if words.take_if(&["each"]) {
+        colon(words, &form)?;
+        return Ok(Whom::Each);
+    }
+    match words.take_if(&["all"]) {
+        true if words.take_if(&["but"]) => {
+            let but = receivers(words, &numbers, &form)?;
+            numbers.retain(|number| !but.contains(number));
+            match numbers.is_empty() {
+                true => Err(words.at_last("nobody is left", form)),
+                false => Ok(Whom::These(numbers)),
+            }
         }
-    };
-    words.take();
-    colon(words, &form)?;
-    Ok(whom)
+        true => colon(words, &form).map(|()| Whom::All),
+        false => receivers(words, &numbers, &form).map(Whom::These),
+    }
 }
 
 fn colon(words: &mut Words, form: &str) -> Parsed<()> {
@@ -132,7 +140,7 @@ fn receivers(words: &mut Words, numbers: &BTreeSet<u32>, form: &str) -> Parsed<B
         let span = span(words, word, form)?;
         let mut found = numbers.range(span).peekable();
         if found.peek().is_none() {
-            let what = format!("{word} is nobody who can be told");
+            let what = format!("{word} is nobody else on the line");
             return Err(words.at_last(what, form));
         }
         for &number in found {
@@ -183,7 +191,10 @@ fn junk(words: &mut Words, scenario: &Scenario) -> Parsed<Deed> {
         true => Ok(Deed::Junk { whom, junk }),
         false => {
             let what = format!("after the junk stands {}", words.next_shown());
-            Err(words.at_next(what, "another deed, or the end of the line"))
+            Err(words.at_next(
+                what,
+                "another one that tells something, other junk, or the end of the line",
+            ))
         }
     }
 }

@@ -31,13 +31,14 @@ pub fn sayings(
 ) -> Parsed<Vec<Saying>> {
     let mut all = Vec::new();
     loop {
+        let taken = words.taken();
         let saying = saying(words, scenario, rounds)?;
         if let Some(round) = rounds.clone().find(|&round| !saying.fits(round)) {
             let what = format!(
-                "`{saying}` is not of round {round}, a {} round",
+                "round {round} is for {}, not for `{saying}`",
                 words::kind(round)
             );
-            return Err(words.at_last(what, allowed(rounds)));
+            return Err(words.since(taken, what, allowed(rounds)));
         }
         all.push(saying);
         if !words.take_if(&["and"]) {
@@ -48,7 +49,7 @@ pub fn sayings(
         return Err(words.at_last("silent is no frame", "silent alone, or frames with and"));
     }
     if all.iter().map(Saying::frames).sum::<usize>() > MOST_FRAMES {
-        let allowed = format!("at most {MOST_FRAMES} frames for one receiver");
+        let allowed = format!("at most {MOST_FRAMES} for one receiver; anything may be two");
         return Err(words.at_last("these are too many frames", allowed));
     }
     match words.peek().is_none() || starts_deed(words) {
@@ -57,7 +58,7 @@ pub fn sayings(
             let what = format!("after what is told stands {}", words.next_shown());
             Err(words.at_next(
                 what,
-                "and with another frame, another deed, or the end of the line",
+                "and with another frame, another one that tells something, or the end of the line",
             ))
         }
     }

@@ -84,6 +84,21 @@ impl<'a> Words<'a> {
         self.at(self.next.saturating_sub(1), what, allowed)
     }
 
+    /// How many words have been taken.
+    pub fn taken(&self) -> usize {
+        self.next
+    }
+
+    /// A mistake in all words taken since so many had been.
+    pub fn since(&self, taken: usize, what: String, allowed: String) -> Mistake {
+        let (first, last) = (self.at(taken, "", ""), self.at_last(what, allowed));
+        Mistake {
+            column: first.column,
+            length: last.column + last.length - first.column,
+            ..last
+        }
+    }
+
     /// A mistake at the next word, or behind the line's end.
     pub fn at_next(&self, what: impl Into<String>, allowed: impl Into<String>) -> Mistake {
         self.at(self.next, what, allowed)
@@ -132,9 +147,10 @@ pub fn span(words: &Words, text: &str, allowed: &str) -> Parsed<RangeInclusive<u
             let what = format!("{first} to {last} is backwards");
             Err(words.at_last(what, allowed))
         }
-        None => {
-            let what = format!("`{text}` is no number from 1 to 4294967295");
+        None if text.contains(',') => {
+            let what = format!("`{text}`: between numbers stand blanks, no commas");
             Err(words.at_last(what, allowed))
         }
+        None => Err(words.at_last(format!("`{text}` is no number here"), allowed)),
     }
 }

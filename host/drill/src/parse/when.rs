@@ -2,12 +2,14 @@
 
 use std::ops::RangeInclusive;
 
-use crate::parse::tokens::{span, Words};
+use crate::parse::tokens::{number, span, Words};
 use crate::parse::Parsed;
 use crate::scenario::{Order, LAST_SENT};
 
-/// What a line of a scenario can begin with.
-const HEADS: &str = "line, faulty, round, rounds, from, always, seed";
+/// Whether a line that begins so has orders.
+pub fn is_head(word: Option<&str>) -> bool {
+    matches!(word, Some("round" | "rounds" | "from" | "always" | "seed"))
+}
 
 /// The rounds of a line's orders, and the seed.
 pub fn when(words: &mut Words) -> Parsed<(RangeInclusive<u32>, u64)> {
@@ -22,14 +24,13 @@ pub fn when(words: &mut Words) -> Parsed<(RangeInclusive<u32>, u64)> {
         Some("rounds") => round_span(words, "rounds from and to: rounds 4-8")?,
         Some("from") => {
             let first = round_span(words, "a round: from 9")?;
+            if words.peek() == Some("to") {
+                return Err(words.at_next("from has no end", "rounds 3-8 for rounds 3 to 8"));
+            }
             *first.start()..=LAST_SENT
         }
-        Some("always") => 1..=LAST_SENT,
         Some("seed") => return Ok((1..=LAST_SENT, seed(words)?)),
-        word => {
-            let what = format!("no line begins with `{}`", word.unwrap_or_default());
-            return Err(words.at_last(what, HEADS));
-        }
+        _ => 1..=LAST_SENT,
     };
     match words.take_if(&["seed"]) {
         true => Ok((rounds, seed(words)?)),
@@ -39,20 +40,27 @@ pub fn when(words: &mut Words) -> Parsed<(RangeInclusive<u32>, u64)> {
 
 fn seed(words: &mut Words) -> Parsed<u64> {
     let word = words.take().unwrap_or_default();
-    let seed = word.parse();
-    seed.map_err(|_| words.at_last(format!("`{word}` is no seed"), "a number: seed 17"))
+    let seed = number(word).map(u64::from);
+    let what = format!("`{word}` is no seed");
+    seed.ok_or_else(|| {
+        words.at_last(
+            what,
+            "a number, then what is done: seed 17 3 tells each: anything",
+        )
+    })
 }
 
 fn round_span(words: &mut Words, form: &str) -> Parsed<RangeInclusive<u32>> {
     let Some(word) = words.take() else {
         return Err(words.at_next("the round is missing", form));
     };
-    let rounds = span(words, word, form)?;
+    let allowed = format!("{form}; rounds are 1 to {LAST_SENT}");
+    let rounds = span(words, word, &allowed)?;
     match *rounds.end() <= LAST_SENT {
         true => Ok(rounds),
         false => {
             let what = format!("in round {} nothing is sent any more", rounds.end());
-            Err(words.at_last(what, format!("rounds 1 to {LAST_SENT}")))
+            Err(words.at_last(what, allowed))
         }
     }
 }

@@ -2,9 +2,8 @@
 
 use std::cmp::Reverse;
 
-use crate::facts::{groups, Group};
+use crate::facts::{groups, Group, Reading};
 use crate::run::{Round, Run};
-use crate::scenario::Saying;
 use crate::story::MOST_LIARS;
 use crate::words::{short_named, times};
 
@@ -18,10 +17,7 @@ pub fn lies(run: &Run) -> Vec<String> {
     lies.sort_by_key(|(apart, _)| Reverse(*apart));
     let others = lies.len() - MOST_LIARS;
     let busiest = lies.into_iter().take(MOST_LIARS).map(|(_, line)| line);
-    let rest = format!(
-        "{} more told them different things no more often.",
-        times(others, "card")
-    );
+    let rest = format!("For {} more see the table.", times(others, "card"));
     busiest.chain([rest]).collect()
 }
 
@@ -41,9 +37,10 @@ fn lie(run: &Run, place: usize, number: u32) -> (usize, String) {
             parts_of(parts)
         ),
     };
+    let who = if apart.is_empty() { "All" } else { "Some" };
     let line = match defects(run, place).join(", ") {
         none if none.is_empty() => format!("{told}."),
-        some => format!("{told}. Some got {some}."),
+        some => format!("{told}. {who} got {some}."),
     };
     (apart.len(), line)
 }
@@ -63,16 +60,16 @@ fn parts_of(groups: &[Group]) -> String {
 fn defects(run: &Run, faulty: usize) -> Vec<String> {
     let kinds = [
         (None, "nothing"),
-        (Some(Saying::Empty), "empty frames"),
-        (Some(Saying::Cut), "cut frames"),
-        (Some(Saying::Stale), "stale frames"),
-        (Some(Saying::Garbled), "garbled frames"),
+        (Some(Reading::Empty), "empty frames"),
+        (Some(Reading::WrongLength), "frames of a wrong length"),
+        (Some(Reading::Stale), "stale frames"),
+        (Some(Reading::Garbled), "garbled frames"),
     ];
-    let is = |group: &Group, defect: &Option<Saying>| match defect {
+    let is = |group: &Group, defect: &Option<Reading>| match defect {
         Some(defect) => group.told.0.contains(defect),
         None => group.told.0.is_empty(),
     };
-    let count = |defect: &Option<Saying>| {
+    let count = |defect: &Option<Reading>| {
         let has = |round: &&Round| {
             let mut told = groups(run, round, faulty).into_iter();
             told.any(|group| is(&group, defect))

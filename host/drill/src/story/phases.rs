@@ -2,7 +2,7 @@
 
 use std::collections::BTreeMap;
 
-use crate::facts::{kings, united};
+use crate::facts::{endings, kings, united};
 use crate::run::{Round, Run};
 use crate::words::short_named;
 
@@ -27,8 +27,8 @@ pub fn phases(run: &Run) -> Vec<String> {
         lines.splice(FIRST_PHASES..behind, [between]);
     }
     match united {
-        Some(_) => lines.extend(sure(run, bit)),
-        None => lines.push("The correct ones never came to hold one bit.".into()),
+        Some(from) => lines.extend(sure(run, from, bit)),
+        None => lines.push("At the end the correct ones held different bits.".into()),
     }
     lines
 }
@@ -129,17 +129,21 @@ fn held(run: &Run, round: &Round) -> String {
     }
 }
 
-/// Why that is for good, where it is promised.
-fn sure(run: &Run, bit: u8) -> Option<String> {
+/// Why that is for good, where it is promised and there is somebody who could lie. It is so
+/// from the round on in which all tell that bit as their value.
+fn sure(run: &Run, from: &Round, bit: u8) -> Option<String> {
     let (correct, faulty) = (run.scenario.correct.len(), run.scenario.faulty.len());
     let others = match faulty {
         1 => "the faulty one".into(),
         _ => format!("the {faulty} faulty ones"),
     };
-    let size = run.scenario.size();
+    let (size, value) = (run.scenario.size(), from.round.next_multiple_of(3));
     let line = format!(
-        "{correct} of {size} are on {bit} then, two thirds and more. So each is sure of its bit, \
-         and follows no king against it: {others} cannot change that."
+        "In round {value} the {correct} correct ones of {size} tell each other {bit}, which is two \
+         thirds and more. So each is sure of its bit from then on, and follows no king against \
+         it: {others} cannot change that."
     );
-    (run.scenario.is_promised() && faulty > 0).then_some(line)
+    let first = endings(run).iter().map(|ending| ending.round).min();
+    let told = first.is_some_and(|first| value < first);
+    (run.scenario.is_promised() && faulty > 0 && told).then_some(line)
 }

@@ -6,7 +6,7 @@ use crate::table::layout::{Line, Style};
 use crate::words;
 
 /// The most groups of receivers that are told apart in a cell.
-const MOST_GROUPS: usize = 4;
+const MOST_GROUPS: usize = 8;
 
 /// The column's head.
 pub fn head(run: &Run, number: u32) -> Vec<Line> {
@@ -87,21 +87,22 @@ fn held(seen: &Seen, before: Option<&Seen>) -> Line {
 /// What a faulty one told whom, marked where it told them different things.
 fn told(run: &Run, round: &Round, faulty: usize) -> Vec<Line> {
     let groups = groups(run, round, faulty);
-    let line = |group: &Group| match groups.len() {
-        1 => Line::of(&format!("all: {}", group.told.short()), Style::Faulty),
-        _ => Line::of("≠", Style::Bad).and(
-            &format!(
-                "{}: {}",
-                words::short_numbers(&group.to),
-                group.told.short()
-            ),
-            Style::Faulty,
-        ),
+    let mark = match groups.len() {
+        0 | 1 => Line::default(),
+        _ => Line::of("≠", Style::Bad),
+    };
+    let line = |group: &Group| {
+        let to = match group.to.len() == run.scenario.correct.len() {
+            true => "all".into(),
+            false => words::short_numbers(&group.to),
+        };
+        let told = format!("{to}: {}", group.told.short());
+        mark.clone().and(&told, Style::Faulty)
     };
     let mut lines: Vec<Line> = groups.iter().take(MOST_GROUPS).map(line).collect();
     if groups.len() > MOST_GROUPS {
         let more = format!("and {} more", groups.len() - MOST_GROUPS);
-        lines.push(Line::of("≠", Style::Bad).and(&more, Style::Faulty));
+        lines.push(mark.and(&more, Style::Faulty));
     }
     lines
 }
