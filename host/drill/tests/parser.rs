@@ -44,6 +44,17 @@ fn wrong(orders: &str, what: &str, allowed: &str) {
     );
 }
 
+/// The same for each row: orders, what is wrong, what is allowed.
+fn all_wrong(rows: &str) {
+    for row in rows.lines().filter(|row| !row.is_empty()) {
+        let cells: Vec<&str> = row.split(" | ").collect();
+        let [orders, what, allowed] = cells[..] else {
+            panic!("three cells: {row}");
+        };
+        wrong(orders, what, allowed);
+    }
+}
+
 /// The orders of a text for that line.
 fn orders(orders: &str) -> Vec<Order> {
     let text = format!("{LINE}{orders}\n");
@@ -203,161 +214,74 @@ fn mistakes_on_who_is_there() {
 
 #[test]
 fn mistakes_on_rounds() {
-    wrong("round", "the round is missing", "round 3");
-    wrong("round x 3 tells 5: init", "`x` is no number", "round 3");
-    wrong("round 0 3 tells 5: init", "`0` is no number", "1 to 194");
-    wrong("from 3 to 8 3 plays along", "from has no end", "rounds 3-8");
-    wrong(
-        "round 4-8 3 tells 5: silent",
-        "these are several",
-        "rounds 4-8",
-    );
-    wrong("rounds 8-4 3 tells 5: silent", "backwards", "rounds 4-8");
-    wrong("round 195 3 tells 5: silent", "nothing is sent", "1 to 194");
-    wrong("from 200 3 plays along", "nothing is sent", "1 to 194");
-    wrong("seed 3x 3 tells 5: anything", "`3x` is no seed", "seed 17");
-    wrong(
-        "round 3",
-        "it is not said what is done",
-        "3 tells 5 7: bit 0",
+    all_wrong(
+        "
+round | the round is missing | round 3
+round x 3 tells 5: init | `x` is no number | round 3
+round 0 3 tells 5: init | `0` is no number | 1 to 194
+from 3 to 8 3 plays along | from has no end | rounds 3-8
+round 4-8 3 tells 5: silent | these are several | rounds 4-8
+rounds 8-4 3 tells 5: silent | backwards | rounds 4-8
+round 195 3 tells 5: silent | nothing is sent | 1 to 194
+from 200 3 plays along | nothing is sent | 1 to 194
+seed 3x 3 tells 5: anything | `3x` is no seed | seed 17
+round 3 | it is not said what is done | 3 tells 5 7: bit 0
+",
     );
 }
 
 #[test]
 fn mistakes_on_deeds() {
-    wrong("round 3 5 tells 7: value 0", "5 is correct", "3");
-    wrong("round 3 4 tells 7: value 0", "4 is not on the line", "3");
-    wrong(
-        "round 3 card tells 7: value 0",
-        "`card` is unknown here",
-        "3",
-    );
-    wrong(
-        "round 3 3 says 7: value 0",
-        "after 3 stands `says`",
-        "tells, plays along",
-    );
-    wrong("round 3 3 plays 7", "after plays stands `7`", "plays along");
-    wrong("round 3 3 plays along with 2", "`2` is no bit", "with 0, with 1");
-    wrong(
-        "always 3 plays along with 0 3 plays along with 1",
-        "was to be started with 0",
-        "one bit",
-    );
-    wrong("round 3 3 tells : value 0", "nobody is named", "5 7 9");
-    wrong(
-        "round 3 3 tells 5 value 0",
-        "`value` is no number",
-        "then a colon",
-    );
-    wrong(
-        "round 3 3 tells all value 0",
-        "the colon is missing",
-        "then a colon",
-    );
-    wrong(
-        "round 3 3 tells 3: value 0",
-        "3 is nobody else on the line",
-        "5 7 9",
-    );
-    wrong(
-        "round 3 3 tells 4: value 0",
-        "4 is nobody else on the line",
-        "5 7 9",
-    );
-    wrong("round 3 3 tells 5 5: value 0", "5 is named twice", "5 7 9");
-    wrong("round 3 junk 5: noise", "after junk stands `5`", "junk for");
-    wrong(
-        "round 3 junk for 3: noise",
-        "3 is nobody",
-        "correct ones (5 7 9)",
-    );
-    wrong("round 3 junk for 5: dirt", "`dirt` is no junk", "noise");
-    wrong("round 3 junk for 5:", "which junk", "noise");
-    wrong(
-        "round 3 junk for 5: noise again",
-        "after the junk stands `again`",
-        "another deed",
+    all_wrong(
+        "
+round 3 5 tells 7: value 0 | 5 is correct | 3
+round 3 4 tells 7: value 0 | 4 is not on the line | 3
+round 3 card tells 7: value 0 | `card` is unknown here | 3
+round 3 3 says 7: value 0 | after 3 stands `says` | tells, plays along
+round 3 3 plays 7 | after plays stands `7` | plays along
+round 3 3 plays along with 2 | `2` is no bit | with 0, with 1
+always 3 plays along with 0 3 plays along with 1 | was to be started with 0 | one bit
+round 3 3 tells : value 0 | nobody is named | 5 7 9
+round 3 3 tells 5 value 0 | `value` is no number | then a colon
+round 3 3 tells all value 0 | the colon is missing | then a colon
+round 3 3 tells 3: value 0 | 3 is nobody else on the line | 5 7 9
+round 3 3 tells 4: value 0 | 4 is nobody else on the line | 5 7 9
+round 3 3 tells all but 5-9: value 0 | nobody is left | 5 7 9
+round 3 3 tells 5 5: value 0 | 5 is named twice | 5 7 9
+round 3 junk 5: noise | after junk stands `5` | junk for
+round 3 junk for 3: noise | 3 is nobody | correct ones (5 7 9)
+round 3 junk for 5: dirt | `dirt` is no junk | noise
+round 3 junk for 5: | which junk | noise
+round 3 junk for 5: noise again | after the junk stands `again` | the end of the line
+",
     );
 }
 
 #[test]
 fn mistakes_on_what_is_told() {
-    wrong(
-        "round 3 3 tells 5:",
-        "it is not said what is told",
-        "value 0, value 1",
-    );
-    wrong(
-        "round 3 3 tells 5: valu 0",
-        "`valu` is nothing that can be told",
-        "value 0, value 1",
-    );
-    wrong("round 3 3 tells 5: value 2", "`2` is no bit", "0, 1");
-    wrong("round 3 3 tells 5: value", "the bit is missing", "0, 1");
-    wrong(
-        "round 4 3 tells 5: propose maybe",
-        "`maybe` is no bit",
-        "0, 1, none",
-    );
-    wrong(
-        "round 4 3 tells 5: value 0",
-        "round 4 is for propose, not for `value 0`",
-        "propose 0",
-    );
-    wrong(
-        "rounds 3-5 3 tells 5: value 0",
-        "round 4 is for propose",
-        "bit 0",
-    );
-    wrong(
-        "round 3 3 tells 5: lists 3",
-        "round 3 is for value, not for `lists 3`",
-        "value 0",
-    );
-    wrong(
-        "round 2 3 tells 5: lists",
-        "the numbers are missing",
-        "lists nothing",
-    );
-    wrong(
-        "round 2 3 tells 5: lists 0",
-        "`0` is no number",
-        "lists nothing",
-    );
-    wrong(
-        "round 2 3 tells 5: lists 3 3",
-        "3 is listed twice",
-        "lists nothing",
-    );
-    wrong("round 2 3 tells 5: lists 1-65", "too many numbers", "64");
-    wrong(
-        "round 3 3 tells 5: repeats 3",
-        "`3` is no correct one",
-        "5 7 9",
-    );
-    wrong("round 3 3 tells 5: bytes", "the bytes are missing", "hex");
-    wrong("round 3 3 tells 5: bytes 0g", "`0g` is not hex", "hex");
-    wrong("round 3 3 tells 5: bytes 012", "`012` is not hex", "hex");
-    wrong(
-        "round 3 3 tells 5: bytes 00*9999999999",
-        "is not hex",
-        "hex",
-    );
-    wrong(
-        "round 3 3 tells 5: value 0 value 1",
-        "stands `value`",
-        "and with another frame",
-    );
-    wrong(
-        "round 3 3 tells 5: silent and value 0",
-        "silent is no frame",
-        "silent alone",
-    );
-    wrong(
-        "round 3 3 tells 5: twice and twice",
-        "too many frames",
-        "at most 3",
+    all_wrong(
+        "
+round 3 3 tells 5: | it is not said what is told | value 0, value 1
+round 3 3 tells 5: valu 0 | `valu` is nothing that can be told | value 0, value 1
+round 3 3 tells 5: value 2 | `2` is no bit | 0, 1
+round 3 3 tells 5: value | the bit is missing | 0, 1
+round 4 3 tells 5: propose maybe | `maybe` is no bit | 0, 1, none
+round 4 3 tells 5: value 0 | round 4 is for propose, not for `value 0` | propose 0
+rounds 3-5 3 tells 5: value 0 | round 4 is for propose | bit 0
+round 3 3 tells 5: lists 3 | round 3 is for value, not for `lists 3` | value 0
+round 2 3 tells 5: lists | the numbers are missing | lists nothing
+round 2 3 tells 5: lists 0 | `0` is no number | lists nothing
+round 2 3 tells 5: lists 3 3 | 3 is listed twice | lists nothing
+round 2 3 tells 5: lists 1-65 | too many numbers | 64
+round 3 3 tells 5: repeats 3 | `3` is no correct one | 5 7 9
+round 3 3 tells 5: bytes | the bytes are missing | hex
+round 3 3 tells 5: bytes 0g | `0g` is not hex | hex
+round 3 3 tells 5: bytes 012 | `012` is not hex | hex
+round 3 3 tells 5: bytes 00*9999999999 | is not hex | hex
+round 3 3 tells 5: value 0 value 1 | stands `value` | and with another frame
+round 3 3 tells 5: silent and value 0 | silent is no frame | silent alone
+round 3 3 tells 5: twice and twice | too many frames | at most 3
+",
     );
     let long = format!("round 3 3 tells 5: bytes {}", "00".repeat(321));
     wrong(&long, "too many bytes", "320");
