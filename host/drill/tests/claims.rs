@@ -3,7 +3,7 @@
 mod random;
 
 use drill::run::{run, Rule, Run};
-use drill::scenario::{Deed, Junk, Order, Whom};
+use drill::scenario::{Deed, Junk, Order, Scenario, Whom};
 use drill::verdict::verdict;
 use drill::worst::worst;
 use random::random_scenario;
@@ -84,49 +84,43 @@ fn where_nothing_is_promised_some_break() {
     assert!((1..500).contains(&broken));
 }
 
+/// The same scenario with junk of every kind for everybody in every round.
+fn with_junk(quiet: &Scenario, seed: u64) -> Scenario {
+    let kinds = [Junk::Noise, Junk::Cut, Junk::Old, Junk::Forged, Junk::Crowd];
+    let junk = kinds.into_iter().chain([Junk::Bytes(vec![0; 7])]);
+    let order = |junk| Order {
+        line: 1,
+        rounds: 1..=194,
+        seed,
+        deed: Deed::Junk {
+            whom: Whom::All,
+            junk,
+        },
+    };
+    let mut loud = quiet.clone();
+    loud.orders.extend(junk.map(order));
+    loud
+}
+
 /// Junk from the cable is refused and changes nothing else.
 #[test]
 fn junk_changes_nothing() {
     for seed in 0..200 {
         let size = 1 + seed as usize % 9;
         let quiet = random_scenario(seed, size, (size - 1) / 3);
-        let mut loud = quiet.clone();
-        for junk in [
-            Junk::Noise,
-            Junk::Cut,
-            Junk::Old,
-            Junk::Forged,
-            Junk::Crowd,
-            Junk::Bytes(vec![0; 7]),
-        ] {
-            loud.orders.push(Order {
-                line: 1,
-                rounds: 1..=194,
-                seed,
-                deed: Deed::Junk {
-                    whom: Whom::All,
-                    junk,
-                },
-            });
-        }
-        let (quiet, loud) = (
-            run(&quiet, Rule::Engine).expect("a run"),
-            run(&loud, Rule::Engine).expect("a run"),
-        );
+        let loud = with_junk(&quiet, seed);
+        let quiet = run(&quiet, Rule::Engine).expect("a run");
+        let loud = run(&loud, Rule::Engine).expect("a run");
+        assert_eq!(quiet.rounds.len(), loud.rounds.len());
         for (a, b) in quiet.rounds.iter().zip(&loud.rounds) {
             for (a, b) in a.correct.iter().zip(&b.correct) {
-                assert_eq!(
-                    (&a.sent, a.state.image()),
-                    (&b.sent, b.state.image()),
-                    "seed {seed}"
-                );
+                let (a, b) = ((&a.sent, a.state.image()), (&b.sent, b.state.image()));
+                assert_eq!(a, b, "seed {seed}");
             }
         }
         let first = &loud.rounds[0].correct[0].junk;
         assert_eq!(first, &[4, 4, 5, 6, 7, 4], "seed {seed}");
-        let last = &loud.rounds.last().expect("a round").correct;
-        assert!(last.iter().all(|seen| seen.junk.is_empty()));
-        assert_eq!(quiet.rounds.len(), loud.rounds.len());
+        assert!(loud.last().correct.iter().all(|seen| seen.junk.is_empty()));
     }
 }
 

@@ -309,42 +309,11 @@ x.txt, line 5: 7 is correct, and does as the rules say
 /// No text makes the reader fail: words of all kinds in any order, and bytes of any kind.
 #[test]
 fn any_text_is_read_or_refused() {
-    let words = [
-        "line",
-        "faulty",
-        "round",
-        "rounds",
-        "from",
-        "always",
-        "seed",
-        "3",
-        "5",
-        "7=1",
-        "4-8",
-        "9-1",
-        ":",
-        "tells",
-        "plays",
-        "along",
-        "with",
-        "lists",
-        "value",
-        "bytes",
-        "and",
-        "junk",
-        "for",
-        "all",
-        "\n",
-        "\t",
-        "#",
-        "=",
-        "-",
-        "é",
-        "\u{1b}[31m",
-        "opinion",
-        "none",
-        "99999999999999999999",
-    ];
+    let words =
+        "line faulty round rounds from always seed 3 5 7=1 4-8 9-1 : tells plays along with \
+                 lists value bytes and junk for all but opinion none # = - é \u{1b}[31m \
+                 99999999999999999999";
+    let words: Vec<&str> = words.split(' ').chain(["\n", "\t"]).collect();
     let mut random = checks::random::Random::new(1);
     let mut read = 0;
     for _ in 0..20_000 {

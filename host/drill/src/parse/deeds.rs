@@ -174,7 +174,21 @@ fn junk(words: &mut Words, scenario: &Scenario) -> Parsed<Deed> {
         }
         false => Whom::These(receivers(words, &numbers, &form)?),
     };
-    let junk = match words.take() {
+    let junk = which_junk(words)?;
+    match words.peek().is_none() || starts_deed(words) {
+        true => Ok(Deed::Junk { whom, junk }),
+        false => {
+            let what = format!("after the junk stands {}", words.next_shown());
+            Err(words.at_next(
+                what,
+                "another one that tells something, other junk, or the end of the line",
+            ))
+        }
+    }
+}
+
+fn which_junk(words: &mut Words) -> Parsed<Junk> {
+    Ok(match words.take() {
         Some("noise") => Junk::Noise,
         Some("cut") => Junk::Cut,
         Some("old") => Junk::Old,
@@ -186,15 +200,5 @@ fn junk(words: &mut Words, scenario: &Scenario) -> Parsed<Deed> {
             return Err(words.at_last(what, JUNK_ALLOWED));
         }
         None => return Err(words.at_next("it is not said which junk", JUNK_ALLOWED)),
-    };
-    match words.peek().is_none() || starts_deed(words) {
-        true => Ok(Deed::Junk { whom, junk }),
-        false => {
-            let what = format!("after the junk stands {}", words.next_shown());
-            Err(words.at_next(
-                what,
-                "another one that tells something, other junk, or the end of the line",
-            ))
-        }
-    }
+    })
 }
