@@ -124,14 +124,15 @@ fn junk_changes_nothing() {
     }
 }
 
-/// The published rule stops nobody later, and breaks lines that the engine holds.
+/// The published rule breaks lines that hold by the engine's.
 #[test]
 fn the_printed_rule_breaks_lines() {
     let mut broken = 0;
     for seed in 0..500 {
         let scenario = random_scenario(seed, 4 + seed as usize % 4, 1);
-        let printed = run(&scenario, Rule::Printed).expect("a run");
-        broken += usize::from(!verdict(&printed).agreed);
+        let agreed = |rule| verdict(&run(&scenario, rule).expect("a run")).agreed;
+        assert!(agreed(Rule::Engine), "seed {seed}");
+        broken += usize::from(!agreed(Rule::Printed));
     }
     println!("the printed rule breaks {broken} of 500 lines");
     assert!((1..500).contains(&broken));
