@@ -15,6 +15,14 @@ use phases::phases;
 const PRINTED: &str = "The correct ones stop by the published method's own rule, when a king is \
                        named twice. They run on the reference, not on the engine.";
 
+const ENGINE_STOPS: &str = "Nobody can know when all agree. So each goes on for as many phases as \
+                            it has candidates for king, and then decides:";
+const PRINTED_STOPS: &str = "By the printed rule each stops when the king to name is one that it \
+                             has named before. New candidates move the others to later places, so \
+                             that this may come early:";
+const QUIET: &str = "Who has stopped is quiet, and counts as saying what its receiver says \
+                     itself, opinions apart.";
+
 /// The most faulty ones whose lies are told one by one.
 const MOST_LIARS: usize = 4;
 
@@ -53,10 +61,10 @@ pub fn story(run: &Run) -> Vec<String> {
 }
 
 /// When they decided, and why then.
-fn stops(run: &Run) -> Option<String> {
-    let mut rounds: BTreeMap<u32, Vec<u32>> = BTreeMap::new();
+fn stops(run: &Run) -> Vec<String> {
+    let mut stops: BTreeMap<u32, Vec<u32>> = BTreeMap::new();
     for ending in endings(run).iter().filter(|ending| ending.decision != 2) {
-        rounds.entry(ending.round).or_default().push(ending.number);
+        stops.entry(ending.round).or_default().push(ending.number);
     }
     let stop = |(round, who): (&u32, &Vec<u32>)| {
         let who = match who.len() == run.scenario.correct.len() {
@@ -66,15 +74,19 @@ fn stops(run: &Run) -> Option<String> {
         let phases = times(phase(*round).unwrap_or(0) as usize, "phase");
         format!("{who} in round {round}, after {phases}")
     };
-    let stops: Vec<String> = rounds.iter().map(stop).collect();
     let why = match run.rule {
-        Rule::Engine => {
-            "Nobody can know when all agree. So each goes on for as many phases as it \
-                         has candidates for king, and then decides:"
-        }
-        Rule::Printed => "By the printed rule each stops when it would name a king again:",
+        Rule::Engine => ENGINE_STOPS,
+        Rule::Printed => PRINTED_STOPS,
     };
-    (!stops.is_empty()).then(|| format!("{why} {}.", stops.join("; ")))
+    let each: Vec<String> = stops.iter().map(stop).collect();
+    let mut lines = Vec::new();
+    if !each.is_empty() {
+        lines.push(format!("{why} {}.", each.join("; ")));
+    }
+    if each.len() > 1 {
+        lines.push(QUIET.into());
+    }
+    lines
 }
 
 /// Refused trays and junk.
@@ -120,7 +132,8 @@ fn late(run: &Run) -> Vec<String> {
         let count = times(heard.len(), "card");
         return vec![format!("{count} were first heard after round 1 by some.")];
     }
-    let when = |(round, who): (u32, Vec<u32>)| format!("in round {round} by {}", named(&who));
+    let when =
+        |(round, who): (u32, Vec<u32>)| format!("by {} in the tray of round {round}", named(&who));
     let line = |(number, rounds): (u32, BTreeMap<u32, Vec<u32>>)| {
         let parts: Vec<String> = rounds.into_iter().map(when).collect();
         format!("{number} was first heard {}.", parts.join(", "))

@@ -56,7 +56,11 @@ fn hold(run: &Run, line: &str) -> bool {
         assert!((1..=run.last().round).all(|round| bits(run, round) == vec![bit; size]));
         return true;
     }
-    if let Some(round) = between(line, "In round ", " the ") {
+    if let Some(round) = line
+        .strip_prefix("In round ")
+        .and_then(|rest| rest.split_once(" the "))
+    {
+        let (round, _) = round;
         let bit = number(between(line, "tell each other ", ",").expect("a bit")) as u8;
         let seen = &run.rounds[number(round) as usize - 1].correct;
         let told = seen.iter().map(|seen| (seen.sent[4], seen.sent[5]));
@@ -73,11 +77,11 @@ fn hold(run: &Run, line: &str) -> bool {
         let first = number(round);
         assert!((first..=run.last().round).all(|round| bits(run, round) == vec![bit; size]));
         assert_ne!(bits(run, first - 1), vec![bit; size], "{line}");
-    } else if let Some(bit) = between(line, "Then all held ", ", but not for good") {
+    } else if let Some(bit) = between(line, " all held ", ", but not for good") {
         assert_eq!(bits(run, after), vec![number(bit) as u8; size], "{line}");
-    } else if !line.contains(" of them held ") {
-        let zero = between(line, "Then ", " held 0, ").expect("who holds 0");
-        let one = between(line, " held 0, ", " held 1.").expect("who holds 1");
+    } else if !line.contains(" of them") {
+        let zero = between(line, " 0 was held by ", ", 1 by ").expect("who holds 0");
+        let one = between(line, ", 1 by ", ".").expect("who holds 1");
         let held = [0, 1].map(|bit| holding(run, after, bit));
         assert_eq!([numbers(zero), numbers(one)], held, "{line}");
     }

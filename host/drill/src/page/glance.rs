@@ -20,7 +20,8 @@ const WORDS: &str =
     have what it told others, in stripes where that differed: grey without a bit, hatched \
     what counts for nothing, blank where it was silent or nobody listens any more. Framed in \
     gold: the king of the phase, with a broken frame if only some name it. Framed in black, \
-    or in white on a dark page: the decision. The lanes below have it in words.";
+    or in white on a dark page: the decision. The lanes below have it in words. On a narrow \
+    screen it scrolls sideways.";
 
 /// How large the cells are: all of a run is to be seen at once.
 struct Grid {
@@ -79,11 +80,14 @@ pub fn glance(plan: &Plan) -> String {
     let last = plan.run.rounds.len() as u32;
     let width = grid.x(last) + grid.cell + GAP;
     let height = grid.y(plan.lanes.len()) + GAP;
-    let lanes = plan.lanes.iter().enumerate();
-    let inner = heads(&grid, last)
-        + &lanes
-            .map(|(place, lane)| row(plan, &grid, place, lane))
-            .collect::<String>();
+    let all = |draw: fn(&Plan, &Grid, usize, &Lane) -> String| -> String {
+        let lanes = plan.lanes.iter().enumerate();
+        lanes
+            .map(|(place, lane)| draw(plan, &grid, place, lane))
+            .collect()
+    };
+    // Frames lie above all cells, and decisions above all.
+    let inner = heads(&grid, last) + &all(row) + &all(reigns) + &all(decision);
     let size = format!(r#"width="{width}" height="{height}" viewBox="0 0 {width} {height}""#);
     let open = format!(r#"svg class="glance" role="img" aria-label="{WORDS}" {size}"#);
     let drawn = element(&open, &inner);
@@ -101,21 +105,19 @@ fn heads(grid: &Grid, last: u32) -> String {
         + &text(r#"text class="soft" x="12" y="31""#, "round");
     let large = grid.cell >= 16;
     for phase in (0..last / 3).step_by(if large { 1 } else { 5 }) {
-        let x = grid.x(3 + 3 * phase) + 2;
-        out += &text(&format!(r#"text x="{x}" y="14""#), &phase.to_string());
+        let x = grid.x(3 + 3 * phase) + grid.cell / 2;
+        let open = format!(r#"text class="middle" x="{x}" y="14""#);
+        out += &text(&open, &phase.to_string());
     }
     let starts = (0..last / 3).step_by(5).map(|phase| 3 + 3 * phase);
-    let rounds: Vec<u32> = if large {
-        (1..=last).collect()
-    } else {
-        starts.collect()
+    let rounds: Vec<u32> = match large {
+        true => (1..=last).collect(),
+        false => starts.collect(),
     };
     for round in rounds {
-        let x = grid.x(round) + 2;
-        out += &text(
-            &format!(r#"text class="soft" x="{x}" y="31""#),
-            &round.to_string(),
-        );
+        let x = grid.x(round) + grid.cell / 2;
+        let open = format!(r#"text class="soft middle" x="{x}" y="31""#);
+        out += &text(&open, &round.to_string());
     }
     out
 }
@@ -137,7 +139,7 @@ fn row(plan: &Plan, grid: &Grid, place: usize, lane: &Lane) -> String {
         true => text(&format!(r#"text{class} x="12" y="{y}""#), &name),
         false => String::new(),
     };
-    name + &cells + &reigns(plan, grid, place, lane)
+    name + &cells
 }
 
 /// A correct one's bits; from the decision on a thin line.
@@ -155,9 +157,6 @@ fn correct(plan: &Plan, grid: &Grid, place: usize, at: usize) -> String {
         let outline = grid.outline(now, place, 0, 1);
         let bit = seen.state.bit;
         *paths.entry(if bit == 0 { "t0" } else { "t1" }).or_default() += &outline;
-        if !seen.state.undecided() {
-            *paths.entry("sure").or_default() += &outline;
-        }
         digits += &digit(grid, place, now, bit);
     }
     drawn(&paths) + &digits
@@ -211,24 +210,40 @@ fn tones(plan: &Plan, round: &Round, at: usize) -> Vec<Tone> {
 
 /// A frame around the phases in which this one is king.
 fn reigns(plan: &Plan, grid: &Grid, place: usize, lane: &Lane) -> String {
-    let mut paths: BTreeMap<&str, String> = BTreeMap::new();
     let last = plan.run.rounds.len() as u32;
+    let mut out = String::new();
     for phase in 0..last / 3 {
         let kings = kings(plan.run, phase);
-        if !kings.contains_key(&lane.number) {
-            continue;
-        }
-        let class = if kings.len() == 1 {
-            "reign"
-        } else {
-            "reign some"
+        let class = match kings.len() {
+            1 => "reign",
+            _ => "reign some",
         };
-        let (x, y) = (grid.x(3 + 3 * phase), grid.y(place));
-        let wide = grid.cell * 3.min(last - 2 - 3 * phase);
-        let frame = format!("M{x} {y}h{wide}v{}h-{wide}z", grid.row);
-        *paths.entry(class).or_default() += &frame;
+        if kings.contains_key(&lane.number) {
+            let wide = grid.cell * 3.min(last - 2 - 3 * phase);
+            out += &frame(class, grid, 3 + 3 * phase, place, wide);
+        }
     }
-    drawn(&paths)
+    out
+}
+
+/// A frame around the cell in which a correct one has decided.
+fn decision(plan: &Plan, grid: &Grid, place: usize, lane: &Lane) -> String {
+    let Who::Correct(at) = lane.who else {
+        return String::new();
+    };
+    let state = &plan.run.last().correct[at].state;
+    match state.undecided() {
+        true => String::new(),
+        false => frame("sure", grid, state.round, place, grid.cell),
+    }
+}
+
+/// A frame, with paper around it, so that it stands out from cells of any colour.
+fn frame(class: &str, grid: &Grid, round: u32, place: usize, wide: u32) -> String {
+    let (x, y) = (grid.x(round) + 1, grid.y(place) + 1);
+    let (wide, tall) = (wide - 2, grid.row - 2);
+    let path = format!("M{x} {y}h{wide}v{tall}h-{wide}z");
+    format!(r#"<path class="halo" d="{path}"/><path class="{class}" d="{path}"/>"#)
 }
 
 fn drawn(paths: &BTreeMap<&str, String>) -> String {

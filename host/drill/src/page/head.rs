@@ -1,7 +1,7 @@
 //! The head of the page: the title, how it ended, who was on the line, what happened.
 
 use crate::page::markup::{element, escaped, text};
-use crate::run::Run;
+use crate::run::{Rule, Run};
 use crate::story::{members, story};
 use crate::verdict::{verdict, warning};
 
@@ -16,13 +16,27 @@ pub fn title<'a>(run: &'a Run) -> &'a str {
 }
 
 /// What is going on, for who has never seen a line settle anything.
-const ABOUT: &str =
-    "They must all settle the same bit, 0 or 1: by which of two plans the wave runs. They \
-    talk in rounds, and three rounds make a phase. First each tells its bit, then each \
-    proposes the bit that two thirds told it, and then one of them, the king of the phase, \
-    tells its opinion: whoever has not heard two thirds propose its own bit takes the \
-    king's. Nobody knows who is faulty, so the turn to be king goes round. Where fewer than \
-    a third are faulty, all decide alike, by the limit at the latest.";
+const ABOUT: &str = "They must all settle the same bit, 0 or 1: by which of two plans the next \
+                     wave of parcels runs. They talk in rounds, and three rounds make a phase. \
+                     First each tells its bit, then each proposes the bit that two thirds told it, \
+                     and then one of them, the king of the phase, tells its opinion: whoever has \
+                     not heard two thirds propose its own bit takes the king's. That shows in the \
+                     round after. Nobody knows who is faulty, so the turn to be king goes round.";
+
+/// The same, and what is promised.
+fn about(run: &Run) -> String {
+    let promise = match run.rule {
+        Rule::Engine => format!(
+            "Where fewer than a third are faulty all decide alike, by round {} at the latest: \
+             three for each controller, and three more.",
+            run.scenario.limit()
+        ),
+        Rule::Printed => "By the drill's own rule all decide alike where fewer than a third are \
+                          faulty. By the printed rule they need not."
+            .into(),
+    };
+    text("p", &format!("{ABOUT} {promise}"))
+}
 
 pub fn head(run: &Run) -> String {
     let notes: String = remarks(run).skip(1).map(note).collect();
@@ -40,7 +54,7 @@ pub fn head(run: &Run) -> String {
         notes,
         banner(run),
         line,
-        text("p", ABOUT),
+        about(run),
         text("h2", "What happened"),
         element(&format!(r#"ul class="{class}""#), &sentences),
     ];

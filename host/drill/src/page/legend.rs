@@ -46,7 +46,8 @@ const DECIDED: Sign = (
         r##"<use class="tick" href="#tick" x="12" y="12"/>"##,
         r#"<text x="29" y="22">decided</text></g>"#
     ),
-    "Decided, for good. From then on it is quiet, and sends no more.",
+    "Decided, for good. From then on it is quiet: it sends no more, and counts as saying what its \
+     receiver says.",
 );
 const STUCK: Sign = (
     r#"<path class="stuck" d="M1 18h96"/>"#,
@@ -73,7 +74,8 @@ const VOID: Sign = (
 );
 const SILENT: Sign = (
     r#"<g class="ts"><rect x="1" y="3" width="96" height="30" rx="7"/></g>"#,
-    "Silent: it sent nothing. To who has heard it before, it counts as saying the same as oneself.",
+    "Silent: it sent nothing. A receiver that has heard it before counts it as saying what the \
+     receiver says itself.",
 );
 const REFUSED: Sign = (
     r#"<text class="m no" x="22" y="22">refused 4</text>"#,
@@ -92,7 +94,8 @@ const KINDS: [(&str, &str); 5] = [
     (
         "turn",
         "The king tells its opinion. Whoever has not heard two thirds propose its own bit takes \
-         the king's. All list numbers that are no candidates for king yet; mostly there are none.",
+         the king's; nobody else's opinion counts. All list the numbers that have newly come up \
+         as candidates for king; mostly there are none.",
     ),
 ];
 

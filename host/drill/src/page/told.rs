@@ -47,7 +47,7 @@ fn cell(plan: &Plan, lane: &Lane, place: usize, round: &Round, x: u32) -> String
         inner,
         r#"<rect class="hit" y="{top}" width="{BOX}" height="{tall}" rx="7"/>"#
     );
-    inner += &parts(groups, top);
+    inner += &parts(plan, groups, top);
     if groups.len() > 1 {
         let _ = write!(inner, r##"<use href="#apart" x="{BOX}" y="{}"/>"##, top + 4);
     }
@@ -58,8 +58,8 @@ fn cell(plan: &Plan, lane: &Lane, place: usize, round: &Round, x: u32) -> String
 }
 
 /// What each group was told, one below the other.
-fn parts(groups: &[Group], top: u32) -> String {
-    let all: usize = groups.iter().map(|group| group.to.len()).sum();
+fn parts(plan: &Plan, groups: &[Group], top: u32) -> String {
+    let all = plan.run.scenario.correct.len();
     let mut out = String::new();
     for (place, group) in groups.iter().take(MOST_PARTS).enumerate() {
         let y = part_top(top, place);

@@ -30,7 +30,8 @@ fn lie(run: &Run, place: usize, number: u32) -> (usize, String) {
     let told = match apart.first() {
         None => format!("Card {number} told everybody the same in each round"),
         Some((first, parts)) => format!(
-            "Card {number} told them different things in {} of {}, first in round {}: {}",
+            "Card {number} told them different things in {} of the {} in which they listened, \
+             first in round {}: {}",
             apart.len(),
             times(run.rounds.len() - 1, "round"),
             first.round,

@@ -40,7 +40,7 @@ fn told(run: &Run, phase: u32) -> String {
     let mut moves = by_proposals(round(4 + 3 * phase), turn);
     moves.extend(by_kings(turn, after));
     if moves.is_empty() {
-        moves.push("nobody changed its bit".into());
+        moves.push(unmoved(turn).into());
     }
     let kings = named_kings(run, phase);
     format!(
@@ -48,6 +48,18 @@ fn told(run: &Run, phase: u32) -> String {
         moves.join("; "),
         held(run, after)
     )
+}
+
+/// Why nobody changed its bit, where that can be said of all.
+fn unmoved(turn: &Round) -> &'static str {
+    let mut at_work = turn
+        .correct
+        .iter()
+        .filter(|seen| seen.state.round == turn.round);
+    match at_work.all(|seen| seen.state.strong == 1) {
+        true => "each had heard two thirds propose its own bit, and kept it",
+        false => "nobody changed its bit",
+    }
 }
 
 fn named_kings(run: &Run, phase: u32) -> String {
@@ -118,11 +130,13 @@ fn held(run: &Run, round: &Round) -> String {
             format!("From round {} on all held {bit}.", from.round)
         }
         (_, true) => format!(
-            "Then all held {}, but not for good.",
+            "In round {}, all held {}, but not for good.",
+            round.round,
             u8::from(zero.is_empty())
         ),
         _ => format!(
-            "Then {} held 0, {} held 1.",
+            "In round {}, 0 was held by {}, 1 by {}.",
+            round.round,
             short_named(&zero),
             short_named(&one)
         ),
@@ -140,8 +154,8 @@ fn sure(run: &Run, from: &Round, bit: u8) -> Option<String> {
     let (size, value) = (run.scenario.size(), from.round.next_multiple_of(3));
     let line = format!(
         "In round {value} the {correct} correct ones of {size} tell each other {bit}, which is two \
-         thirds and more. So each is sure of its bit from then on, and follows no king against \
-         it: {others} cannot change that."
+         thirds and more. So each proposes it, is sure of it from that phase on, and follows no \
+         king against it: {others} cannot change that."
     );
     let first = endings(run).iter().map(|ending| ending.round).min();
     let told = first.is_some_and(|first| value < first);
