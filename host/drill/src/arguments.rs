@@ -1,6 +1,7 @@
 //! The words of the command.
 
 use crate::run::Rule;
+use crate::terminal::LEAST_WIDTH;
 
 pub const USAGE: &str = "\
 usage: drill [SCENARIO] [--page F.html] [--rule printed] [--worst N] [--width N]
@@ -12,12 +13,9 @@ SCENARIO is a file, - for standard input, or a name from the list below.
   --worst N       try N random liars on the scenario's line and print, as a scenario, the one
                   by which it decides last or breaks: drill --worst 1000 incident | drill -
   --width N       so many columns wide; else as wide as the terminal
-It ends with 0 if the correct ones agree, 1 if that is broken, 2 if nothing was run.
+It ends with 0 if the correct ones agree, 1 if that is broken, 2 if something is wrong.
 docs/DRILL.md says how to write a scenario. These come with the drill:
 ";
-
-/// The least width of the table.
-const LEAST_WIDTH: usize = 40;
 
 #[derive(Debug, PartialEq, Eq)]
 pub struct Arguments {

@@ -167,22 +167,29 @@ pub fn endings(run: &Run) -> Vec<Ending> {
     run.last().correct.iter().map(ending).collect()
 }
 
-/// The lines of the text with an order that was never followed: the run was over by then, or
-/// later orders speak of the same.
+/// The lines of the text with an order that was never followed: the run was over by then, who
+/// was to be told listened no more, or later orders speak of the same.
 pub fn idle(run: &Run) -> BTreeSet<usize> {
     let scenario = run.scenario;
     let mut followed = vec![false; scenario.orders.len()];
-    for round in 1..run.last().round {
+    for round in run
+        .rounds
+        .iter()
+        .filter(|round| round.round < run.last().round)
+    {
         let now: Vec<usize> = (0..scenario.orders.len())
-            .filter(|&place| scenario.orders[place].rounds.contains(&round))
+            .filter(|&place| scenario.orders[place].rounds.contains(&round.round))
             .collect();
-        for &to in &scenario.numbers() {
-            for &from in scenario.faulty.iter().filter(|&&from| from != to) {
+        for &from in &scenario.faulty {
+            for &to in listeners(run, round).iter().filter(|&&to| to != from) {
                 let tells = |&&place: &&usize| scenario.orders[place].told(from, to).is_some();
                 if let Some(&latest) = now.iter().rev().find(tells) {
                     followed[latest] = true;
                 }
             }
+        }
+        for seen in round.correct.iter().filter(|seen| !seen.junk.is_empty()) {
+            let to = seen.state.number;
             let junk = now
                 .iter()
                 .filter(|&&place| scenario.orders[place].junk(to).is_some());
@@ -192,4 +199,12 @@ pub fn idle(run: &Run) -> BTreeSet<usize> {
     let orders = scenario.orders.iter().zip(followed);
     let idle = orders.filter(|(_, followed)| !followed);
     idle.map(|(order, _)| order.line).collect()
+}
+
+/// Who takes what is told in a round: the correct ones that get a tray, and whoever sits behind
+/// a faulty card.
+fn listeners(run: &Run, round: &Round) -> Vec<u32> {
+    let at_work = round.correct.iter().filter(|seen| !seen.tray.is_empty());
+    let correct = at_work.map(|seen| seen.state.number);
+    correct.chain(run.scenario.faulty.iter().copied()).collect()
 }

@@ -3,7 +3,7 @@
 use checks::packing::{kind_of, INIT, NONE, PROPOSE, TURN, VALUE};
 use checks::random::Random;
 
-use crate::scenario::{Deed, Order, Saying, Scenario, Whom, MOST_LISTED};
+use crate::scenario::{Deed, Order, Saying, Scenario, Whom, LAST_SENT, MOST_LISTED};
 
 /// Numbers that are mostly nobody's.
 const MADE_UP: [u32; 4] = [1, 1000, 2000, u32::MAX];
@@ -37,7 +37,8 @@ pub fn anything(random: &mut Random, scenario: &Scenario, round: u32) -> Saying 
 fn good(random: &mut Random, scenario: &Scenario, round: u32, bit: u8) -> Saying {
     match kind_of(round) {
         INIT => Saying::Init,
-        VALUE => Saying::Value(bit % 2),
+        VALUE if bit == NONE => Saying::Value(random.bit()),
+        VALUE => Saying::Value(bit),
         PROPOSE => Saying::Propose(bit),
         TURN if bit != NONE => Saying::Opinion(bit, some_numbers(random, scenario)),
         _ => Saying::Lists(some_numbers(random, scenario)),
@@ -60,8 +61,8 @@ fn some_numbers(random: &mut Random, scenario: &Scenario) -> Vec<u32> {
     list
 }
 
-/// A whole plan of lying for a line: what each faulty one tells whom in each round, up to the last
-/// round in which a tray is worked.
+/// A whole plan of lying for a line: what each faulty one tells whom in each round in which a
+/// tray may be worked.
 ///
 /// A plan has a manner: the receivers are divided into two sides, and mostly one is told
 /// one bit and the other the other one. So a plan lies to a purpose, which anything in each round
@@ -70,7 +71,11 @@ pub fn plan(seed: u64, scenario: &Scenario) -> Vec<Order> {
     let mut random = Random::new(seed);
     let manner = Manner::of(&mut random, scenario);
     let mut orders = Vec::new();
-    for round in 1..scenario.limit() {
+    let last = match scenario.is_promised() {
+        true => scenario.limit() - 1,
+        false => LAST_SENT,
+    };
+    for round in 1..=last {
         for &faulty in &scenario.faulty {
             let deeds = manner.deeds(&mut random, scenario, round, faulty);
             orders.extend(deeds.into_iter().map(|deed| Order {

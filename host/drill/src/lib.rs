@@ -10,7 +10,7 @@
 //! - [`table`] is the table for a terminal, [`page`] the page for a browser, [`words`] the
 //!   words of both and of scenarios;
 //! - [`liar`] lies at random, and [`worst`] looks for the liar that does most harm;
-//! - [`arguments`] are the words of the command.
+//! - [`arguments`] are the words of the command, [`terminal`] is where it prints.
 
 #![forbid(unsafe_code)]
 
@@ -25,6 +25,7 @@ pub mod run;
 pub mod scenario;
 pub mod story;
 pub mod table;
+pub mod terminal;
 pub mod verdict;
 pub mod words;
 pub mod worst;

@@ -1,25 +1,24 @@
 //! The command: runs a scenario and shows what happened.
 //!
 //! It ends with 0 if the correct ones agree, 1 if agreement is broken, 2 if the scenario or
-//! the words of the command are wrong, and then nothing is run.
+//! the words of the command are wrong, and then nothing is run; also if something cannot be
+//! written.
 
 #![forbid(unsafe_code)]
 
-use std::io::{self, IsTerminal, Read, Write};
-use std::process::{Command, ExitCode, Stdio};
+use std::io::{self, Read, Write};
+use std::process::ExitCode;
 use std::{env, fs};
 
 use drill::arguments::{Arguments, USAGE};
 use drill::run::{run, Run};
 use drill::scenario::Scenario;
 use drill::verdict::verdict;
-use drill::{bundled, mistake, page, parse, table, worst, write};
-
-/// The width where the output is no terminal.
-const WIDTH: usize = 100;
+use drill::{bundled, mistake, page, parse, table, terminal, worst, write};
 
 fn main() -> ExitCode {
-    let words: Vec<String> = env::args().skip(1).collect();
+    let words = env::args_os().skip(1);
+    let words: Vec<String> = words.map(|word| word.to_string_lossy().into()).collect();
     match drill(&words) {
         Ok(agreed) => ExitCode::from(u8::from(!agreed)),
         Err(message) => {
@@ -44,12 +43,13 @@ fn drill(words: &[String]) -> Result<bool, String> {
         return search(&scenario, tries, &arguments);
     }
     let run = run(&scenario, arguments.rule).map_err(|mistake| wrong(&[mistake]))?;
-    save(&run, &text, arguments.page.as_deref())?;
-    print(&table::shown(&run, width(&arguments), has_colour()))?;
+    let (width, colour) = (terminal::width(arguments.width), terminal::has_colour());
+    print(&table::shown(&run, width, colour))?;
     if words.is_empty() {
         let more = "What else there is";
         print(&format!("\n{more}:\n\n{USAGE}\n{}", bundled::listing()))?;
     }
+    save(&run, &text, arguments.page.as_deref())?;
     Ok(verdict(&run).agreed)
 }
 
@@ -58,11 +58,11 @@ fn search(line: &Scenario, tries: u64, arguments: &Arguments) -> Result<bool, St
     if line.faulty.is_empty() {
         return Err("--worst: nobody on this line is faulty, so that nobody lies\n".into());
     }
-    let worst = worst::worst(line, tries, arguments.rule);
-    let text = write::write(&worst);
+    let text = write::write(&worst::worst(line, tries, arguments.rule));
+    print(&text)?;
+    let worst = parse::parse(&text).expect("what is written reads");
     let run = run(&worst, arguments.rule).expect("a plan has no junk");
     save(&run, &text, arguments.page.as_deref())?;
-    print(&text)?;
     Ok(verdict(&run).agreed)
 }
 
@@ -109,40 +109,4 @@ fn print(text: &str) -> Result<(), String> {
         }
         _ => Ok(()),
     }
-}
-
-fn has_colour() -> bool {
-    let unset = env::var_os("NO_COLOR").is_none_or(|value| value.is_empty());
-    let plain = env::var_os("TERM").is_some_and(|term| term == "dumb");
-    unset && !plain && io::stdout().is_terminal()
-}
-
-/// The width asked for, or the terminal's.
-fn width(arguments: &Arguments) -> usize {
-    let told = || env::var("COLUMNS").ok()?.parse().ok();
-    let terminal = || {
-        if io::stdout().is_terminal() {
-            told().or_else(asked)
-        } else {
-            None
-        }
-    };
-    arguments.width.or_else(terminal).unwrap_or(WIDTH)
-}
-
-/// What `stty` says of the terminal's width.
-fn asked() -> Option<usize> {
-    let mut stty = Command::new("stty");
-    let size = stty
-        .arg("size")
-        .stdin(Stdio::inherit())
-        .stderr(Stdio::null())
-        .output()
-        .ok()?;
-    let size = String::from_utf8(size.stdout).ok()?;
-    size.split_whitespace()
-        .nth(1)?
-        .parse()
-        .ok()
-        .filter(|&width| width > 0)
 }

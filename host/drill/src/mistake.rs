@@ -31,10 +31,13 @@ impl Mistake {
     }
 }
 
-/// All mistakes of a text, each with its line and a mark under the words.
+/// The most mistakes that are shown.
+const MOST_SHOWN: usize = 20;
+
+/// The mistakes of a text, each with its line and a mark under the words.
 pub fn shown(name: &str, text: &str, mistakes: &[Mistake]) -> String {
     let mut out = String::new();
-    for mistake in mistakes {
+    for mistake in mistakes.iter().take(MOST_SHOWN) {
         let Mistake { line, what, .. } = mistake;
         let _ = match line {
             0 => writeln!(out, "{name}: {what}"),
@@ -50,6 +53,10 @@ pub fn shown(name: &str, text: &str, mistakes: &[Mistake]) -> String {
             }
         }
         let _ = writeln!(out, "  allowed here: {}", mistake.allowed);
+    }
+    if mistakes.len() > MOST_SHOWN {
+        let more = mistakes.len() - MOST_SHOWN;
+        let _ = writeln!(out, "{name}: {more} more like these");
     }
     out
 }

@@ -26,7 +26,8 @@ pub type Frames = Vec<Vec<u8>>;
 pub struct Run<'a> {
     pub scenario: &'a Scenario,
     pub rule: Rule,
-    /// From round 1 to the one in which the last correct one decided.
+    /// From round 1 to the one in which no correct one sends any more: all have decided, or
+    /// are stuck.
     pub rounds: Vec<Round>,
 }
 
@@ -39,7 +40,7 @@ pub struct Round {
 }
 
 impl Run<'_> {
-    /// The round in which the last one decided.
+    /// The last round.
     pub fn last(&self) -> &Round {
         self.rounds.last().expect("a run has a round")
     }
@@ -50,6 +51,8 @@ pub struct Seen {
     /// Empty if it sends none.
     pub sent: Vec<u8>,
     pub state: Fields,
+    /// The tray of the round that it was handed; empty if none.
+    pub tray: Vec<u8>,
     /// The refusals of the junk that it got.
     pub junk: Vec<u8>,
     /// The refusal of the round's tray, which stops it for good. Only where too many are
@@ -62,8 +65,22 @@ impl Seen {
         Seen {
             sent: one.sent.clone(),
             state: one.state(),
+            tray: Vec::new(),
             junk: Vec::new(),
             refused: None,
+        }
+    }
+
+    /// Whether it has no part in a round any more.
+    pub fn is_out(&self, round: u32) -> bool {
+        self.state.round < round
+    }
+
+    /// What it is then.
+    pub fn out(&self) -> &'static str {
+        match self.state.undecided() {
+            true => "stuck",
+            false => "quiet",
         }
     }
 }
@@ -141,6 +158,7 @@ impl<'a> Line<'a> {
                 continue;
             }
             seen.correct[place].refused = work(one, &handed.tray);
+            seen.correct[place].tray = handed.tray;
             for (told, frames) in seen.told.iter_mut().zip(handed.told) {
                 told[place] = Some(frames);
             }

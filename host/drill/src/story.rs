@@ -8,9 +8,11 @@ use std::collections::{BTreeMap, BTreeSet};
 
 use crate::facts::{endings, idle};
 use crate::run::{Rule, Run, Seen};
-use crate::words::{named, phase, short_named, times};
+use crate::words::{codes, named, phase, short_named, times};
 use lies::lies;
 use phases::phases;
+
+pub use phases::named_kings;
 
 const PRINTED: &str = "The correct ones stop by the published method's own rule, when a king is \
                        named twice. They run on the reference, not on the engine.";
@@ -18,13 +20,13 @@ const PRINTED: &str = "The correct ones stop by the published method's own rule,
 const ENGINE_STOPS: &str = "Nobody can know when all agree. So each goes on for as many phases as \
                             it has candidates for king, and then decides:";
 const PRINTED_STOPS: &str = "By the printed rule each stops when the king to name is one that it \
-                             has named before. New candidates move the others to later places, so \
-                             that this may come early:";
+                             has named before, or if there is none. New candidates move the others to \
+                             later places, so that this may come early:";
 const QUIET: &str = "Who has stopped is quiet, and counts as saying what its receiver says \
                      itself, opinions apart.";
 
-/// The most faulty ones whose lies are told one by one.
-const MOST_LIARS: usize = 4;
+/// The most of which each is told by itself.
+const MOST_TOLD: usize = 4;
 
 /// Who is on the line, and by which rule they stop.
 pub fn members(run: &Run) -> Vec<String> {
@@ -107,11 +109,11 @@ fn refusals(run: &Run) -> Vec<String> {
         }
     }
     if count > 0 {
-        let under: Vec<u32> = junk.into_iter().map(u32::from).collect();
+        let under: Vec<u8> = junk.into_iter().collect();
         lines.push(format!(
-            "Junk from the cable was refused {}, under {}, and changed nothing.",
+            "Junk from the cable was refused {} (under {}), and changed nothing.",
             times(count, "time"),
-            named(&under)
+            codes(&under)
         ));
     }
     lines
@@ -128,7 +130,7 @@ fn late(run: &Run) -> Vec<String> {
         }
     }
     heard.retain(|_, rounds| rounds.keys().any(|&round| round > 1));
-    if heard.len() > MOST_LIARS {
+    if heard.len() > MOST_TOLD {
         let count = times(heard.len(), "card");
         return vec![format!("{count} were first heard after round 1 by some.")];
     }

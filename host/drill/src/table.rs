@@ -3,11 +3,10 @@
 mod cells;
 mod layout;
 
-use crate::facts::kings;
 use crate::run::Run;
-use crate::story::{members, story};
+use crate::story::{members, named_kings, story};
 use crate::verdict::{verdict, warning};
-use crate::words::{self, numbers};
+use crate::words;
 use cells::{cell, head};
 use layout::{painted, wrapped, Line, Style};
 
@@ -92,24 +91,11 @@ fn table(run: &Run, block: &[u32], width: usize, colour: bool) -> String {
     out
 }
 
-/// A phase with its kings and those who name them.
+/// A phase with its kings.
 fn phase_head(run: &Run, phase: u32) -> String {
-    let kings = kings(run, phase);
-    let king = |(king, by): (&u32, &Vec<u32>)| {
-        let faulty = if run.scenario.faulty.contains(king) {
-            ", FAULTY"
-        } else {
-            ""
-        };
-        match kings.len() {
-            1 => format!("king {king}{faulty}"),
-            _ => format!("king {king}{faulty}, named by {}", numbers(by)),
-        }
-    };
-    let named: Vec<String> = kings.iter().map(king).collect();
-    match named.is_empty() {
-        true => format!("-- phase {phase} --"),
-        false => format!("-- phase {phase}: {} --", named.join("; ")),
+    match named_kings(run, phase) {
+        none if none.is_empty() => format!("-- phase {phase} --"),
+        kings => format!("-- phase {phase}: {kings} --"),
     }
 }
 

@@ -47,6 +47,12 @@ fn short_of(list: &[u32], text: String) -> String {
     }
 }
 
+/// Refusals, as they came.
+pub fn codes(refusals: &[u8]) -> String {
+    let each: Vec<String> = refusals.iter().map(u8::to_string).collect();
+    each.join(" ")
+}
+
 /// So many of something that is named by one.
 pub fn times(count: usize, one: &str) -> String {
     match count {

@@ -13,7 +13,7 @@ struct Harm {
     broken: bool,
     /// The round of the last decision.
     decided: u32,
-    /// The first round from which on all held the same bit.
+    /// The first round from which on all held the bit that they end with.
     united: u32,
     /// In how many phases they named different kings.
     apart: usize,
@@ -50,22 +50,29 @@ pub fn worst(line: &Scenario, tries: u64, rule: Rule) -> Scenario {
             kept = scenario;
         }
     }
-    kept.heading = heading(&run(&kept, rule).expect("a plan has no junk"), tries);
+    let run = run(&kept, rule).expect("a plan has no junk");
+    let (heading, last) = (heading(&run, tries), run.last().round);
+    kept.heading = heading;
+    kept.orders.retain(|order| *order.rounds.start() < last);
     kept
 }
 
 fn heading(run: &Run, tries: u64) -> Vec<String> {
     let harm = Harm::of(run);
     let bits = match harm.united {
-        1 => "All correct ones held one bit from the start.".into(),
-        u32::MAX => "The correct ones held different bits to the end.".into(),
-        round => format!(
-            "The correct ones held different bits up to round {}.",
-            round - 1
-        ),
+        1 => "All correct ones held one bit throughout.".into(),
+        u32::MAX => "The correct ones held different bits at the end.".into(),
+        round => format!("From round {round} on all held the bit that they decided."),
+    };
+    let rule = match run.rule {
+        Rule::Engine => "",
+        Rule::Printed => ", with --rule printed",
     };
     vec![
-        format!("The worst of {tries} random liars: {}", verdict(run).text),
+        format!(
+            "The worst of {tries} random liars{rule}: {}",
+            verdict(run).text
+        ),
         format!(
             "{bits} They named different kings in {}.",
             times(harm.apart, "phase")

@@ -120,8 +120,32 @@ fn junk_changes_nothing() {
         }
         let first = &loud.rounds[0].correct[0].junk;
         assert_eq!(first, &[4, 4, 5, 6, 7, 4], "seed {seed}");
-        assert!(loud.last().correct.iter().all(|seen| seen.junk.is_empty()));
     }
+}
+
+/// Who has decided refuses every kind of junk under 2, while others still work.
+#[test]
+fn a_quiet_one_refuses_junk() {
+    let mut quiet = 0;
+    for seed in 0..300 {
+        let loud = with_junk(&random_scenario(seed, 7, 2), seed);
+        for rule in [Rule::Engine, Rule::Printed] {
+            let run = run(&loud, rule).expect("a run");
+            let rounds = run
+                .rounds
+                .iter()
+                .filter(|round| round.round < run.last().round);
+            for round in rounds {
+                let decided = round.correct.iter().filter(|seen| !seen.state.undecided());
+                for seen in decided {
+                    assert_eq!(seen.junk, [2; 6], "seed {seed}");
+                    quiet += 1;
+                }
+            }
+        }
+    }
+    println!("{quiet} times a quiet one got junk");
+    assert!(quiet > 0);
 }
 
 /// The published rule breaks lines that hold by the engine's.
@@ -151,7 +175,7 @@ fn the_worst_is_kept() {
             drill::facts::united(&run).map(|round| round.round),
         )
     };
-    assert!(last(1) <= last(50) && last(50) <= last(300));
+    assert!(last(1) < last(300) && last(50) <= last(300));
     assert_eq!(last(300).0, 18);
     let three = drill::parse::parse("line 5=0 7=1\nfaulty 3\n").expect("a line");
     let kept = worst(&three, 100, Rule::Engine);

@@ -1,5 +1,7 @@
 //! The command: its words, what it prints, and how it ends.
 
+use drill::terminal::wants_colour;
+use std::ffi::OsStr;
 use std::fs;
 use std::io::Write;
 use std::path::{Path, PathBuf};
@@ -107,7 +109,7 @@ fn junk_that_is_a_tray_is_a_mistake() {
 
 #[test]
 fn wrong_words_end_with_2() {
-    let wrong: [(&[&str], &str); 9] = [
+    let wrong: [(&[&str], &str); 8] = [
         (&["--wrost", "3"], "--wrost is unknown"),
         (&["--worst"], "--worst lacks its value"),
         (&["--worst", "0"], "--worst 0: a number from 1"),
@@ -121,10 +123,6 @@ fn wrong_words_end_with_2() {
         (
             &["--page", "mine.txt"],
             "--page mine.txt: a name in .html or .svg is wanted",
-        ),
-        (
-            &["--page", "/no/such/folder/page.html"],
-            "/no/such/folder/page.html: ",
         ),
     ];
     for (words, what) in wrong {
@@ -144,6 +142,24 @@ fn wrong_words_end_with_2() {
 }
 
 #[test]
+fn what_cannot_be_written_is_said() {
+    let output = drill(&["--page", "/no/such/folder/page.html"]);
+    assert_eq!(output.status.code(), WRONG);
+    assert!(error(&output).starts_with("/no/such/folder/page.html: "));
+    assert!(out(&output).contains("\nall decided 0 in round 18"));
+}
+
+#[test]
+fn colour_is_for_terminals_that_want_it() {
+    let wants = |terminal, none: Option<&str>, term: &str| {
+        wants_colour(terminal, none.map(OsStr::new), Some(OsStr::new(term)))
+    };
+    assert!(wants(true, None, "xterm") && wants(true, Some(""), "xterm"));
+    assert!(!wants(true, Some("1"), "xterm") && !wants(false, None, "xterm"));
+    assert!(!wants(true, None, "dumb"));
+}
+
+#[test]
 fn the_worst_is_a_scenario() {
     let found = drill(&["--worst", "50", "incident"]);
     assert_eq!(found.status.code(), AGREED);
@@ -158,6 +174,16 @@ fn the_worst_is_a_scenario() {
         .expect("a verdict")
         .1;
     assert!(out(&again).contains(&format!("\n{verdict}\n")));
+    let page = temporary("worst.html");
+    let name = page.to_str().expect("a name");
+    assert_eq!(
+        drill(&["--worst", "2", "mad-late", "--page", name])
+            .status
+            .code(),
+        AGREED
+    );
+    let page = fs::read_to_string(page).expect("the page");
+    assert!(!page.contains("not followed"), "all of it is followed");
     let broken = drill(&["--worst", "100", "line-of-three"]);
     assert_eq!(broken.status.code(), BROKEN);
     let output = drill_with(&["--worst", "5", "-"], "line 5=1\n");

@@ -12,7 +12,7 @@ use drill::page::{page, picture};
 use drill::parse::parse;
 use drill::run::{run, Rule, Run};
 
-/// About what a browser opens at once.
+/// What a line of 64 with as many faulty ones as may be is allowed to take.
 const LARGEST: usize = 13_000_000;
 
 const LONGEST: &str = "line 1-20=1 42-64=0
@@ -327,7 +327,7 @@ fn says_what_was_refused() {
     let shown = page(&run(&scenario, Rule::Engine).expect("a run"), JUNK);
     assert!(shown.contains(">refused 4<"), "noise, under 4");
     assert!(
-        shown.contains("refused junk under 4-6"),
+        shown.contains("refused junk under 4 5 6"),
         "three kinds of junk in the table"
     );
     let scenario = parse(STUCK).expect("a scenario");
@@ -337,6 +337,53 @@ fn says_what_was_refused() {
         "more than a state holds"
     );
     assert!(shown.contains("class=\"banner bad\"") && shown.contains("class=\"banner warn\""));
+}
+
+/// Who has decided still refuses junk, under 2.
+#[test]
+fn says_what_a_quiet_one_refused() {
+    let text = "line 5=1 7=0 9=1\nfaulty 3\nround 1 3 tells 5 7: init\n\
+                round 2 3 tells 9: lists 3 3 tells 5 7: garbled\n\
+                round 5 3 tells 9: opinion 0\nround 9 junk for 5: noise\n";
+    let scenario = parse(text).expect("a scenario");
+    let run = run(&scenario, Rule::Printed).expect("a run");
+    assert_eq!(run.rounds[8].correct[0].junk, [2]);
+    let shown = page(&run, text);
+    assert!(shown.contains(">refused 2<"), "in the lane");
+    assert!(
+        shown.contains("quiet<br/>refused junk under 2"),
+        "in the table"
+    );
+}
+
+/// At a glance, a frame for each king on the line and for each decision; and all signs of the
+/// lanes that occur are explained.
+#[test]
+fn frames_kings_and_decisions_and_explains_signs() {
+    for text in scenarios() {
+        with_runs(&text, |run| {
+            let page = page(run, &text);
+            let phases = 0..run.rounds.len() as u32 / 3;
+            let kings: Vec<u32> = phases.flat_map(|p| kings(run, p).into_keys()).collect();
+            let on_line = kings
+                .iter()
+                .filter(|king| run.scenario.numbers().contains(king));
+            let framed = page.matches("<path class=\"reign").count();
+            assert_eq!(framed, on_line.count(), "kings");
+            let endings = endings(run);
+            let decided = endings.iter().filter(|ending| ending.decision != 2).count();
+            assert_eq!(
+                page.matches("<path class=\"sure\"").count(),
+                decided,
+                "decisions"
+            );
+            assert!(page.contains("How to read the lanes"));
+            let apart = page.contains("It told different things to different ones.");
+            assert_eq!(apart, page.matches("href=\"#apart\"").count() > 1);
+            let junk = page.contains("Junk from the cable. It was refused");
+            assert_eq!(junk, page.contains("refused junk under"));
+        });
+    }
 }
 
 #[test]
@@ -364,6 +411,8 @@ fn says_what_was_told_to_whom() {
     let lines = lines.split("</g></g>").next().expect("their end");
     let ends = ["value 0", "value 1", "silent"].map(|told| lines.matches(told).count());
     assert_eq!(ends, [2, 1, 1], "an end at each receiver");
+    let words = "<td>Different things:<br/>value 0 to 4 6<br/>value 1 to 8<br/>silent to 10</td>";
+    assert!(shown.contains(words), "in the table");
 }
 
 #[test]

@@ -225,6 +225,7 @@ rounds 8-4 3 tells 5: silent | backwards | rounds 4-8
 round 195 3 tells 5: silent | nothing is sent | 1 to 194
 from 200 3 plays along | nothing is sent | 1 to 194
 seed 3x 3 tells 5: anything | `3x` is no seed | seed 17
+seed | the seed is missing | seed 17
 round 3 | it is not said what is done | 3 tells 5 7: bit 0
 ",
     );
@@ -239,7 +240,8 @@ round 3 4 tells 7: value 0 | 4 is not on the line | 3
 round 3 card tells 7: value 0 | `card` is unknown here | 3
 round 3 3 says 7: value 0 | after 3 stands `says` | tells, plays along
 round 3 3 plays 7 | after plays stands `7` | plays along
-round 3 3 plays along with 2 | `2` is no bit | with 0, with 1
+round 3 3 plays along with 2 | `2` is no bit | 0, 1
+round 3 3 plays along with | the bit is missing | 0, 1
 always 3 plays along with 0 3 plays along with 1 | was to be started with 0 | one bit
 round 3 3 tells : value 0 | nobody is named | 5 7 9
 round 3 3 tells 5 value 0 | `value` is no number | then a colon
@@ -274,6 +276,7 @@ round 2 3 tells 5: lists 0 | `0` is no number | lists nothing
 round 2 3 tells 5: lists 3 3 | 3 is listed twice | lists nothing
 round 2 3 tells 5: lists 1-65 | too many numbers | 64
 round 3 3 tells 5: repeats 3 | `3` is no correct one | 5 7 9
+round 3 3 tells 5: repeats | it is not said whom | 5 7 9
 round 3 3 tells 5: bytes | the bytes are missing | hex
 round 3 3 tells 5: bytes 0g | `0g` is not hex | hex
 round 3 3 tells 5: bytes 012 | `012` is not hex | hex

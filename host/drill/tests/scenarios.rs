@@ -113,7 +113,7 @@ fn the_last_trial_is_document_01s() {
         .all(|seen| seen.state.round == 15 && !seen.state.undecided()));
 }
 
-/// However narrow or wide, no line is wider, and no word is lost.
+/// However narrow or wide, no line is wider, and every decision is there.
 #[test]
 fn tables_fit_the_width() {
     for (name, _) in bundled::ALL {

@@ -1,5 +1,5 @@
-//! What the story says of a run is so in its states: on random lines, on lines where too many
-//! are faulty, by both rules.
+//! What the story says of the bits in a run is so in its states: on random lines, on lines
+//! where too many are faulty, by both rules.
 
 mod random;
 
@@ -79,7 +79,9 @@ fn hold(run: &Run, line: &str) -> bool {
         assert_ne!(bits(run, first - 1), vec![bit; size], "{line}");
     } else if let Some(bit) = between(line, " all held ", ", but not for good") {
         assert_eq!(bits(run, after), vec![number(bit) as u8; size], "{line}");
-    } else if !line.contains(" of them") {
+    } else if line.contains(" of them") {
+        return false;
+    } else {
         let zero = between(line, " 0 was held by ", ", 1 by ").expect("who holds 0");
         let one = between(line, ", 1 by ", ".").expect("who holds 1");
         let held = [0, 1].map(|bit| holding(run, after, bit));
@@ -130,6 +132,17 @@ fn one_bit_is_not_for_good_before_all_have_told_it() {
     assert_eq!(bits(&run, 5), [1, 1, 1]);
     assert_eq!(united(&run).map(|round| round.round), Some(6));
     hold_story(&run);
+}
+
+/// Where nobody can go on, nothing is said of phases that there were not.
+#[test]
+fn of_stuck_ones_no_phase_is_told() {
+    let text = "line 5=0 7=1\nfaulty 3\nround 1 3 plays along\n\
+                round 2 3 tells all: lists 100-163\n";
+    let scenario = parse(text).expect("a scenario");
+    let run = run(&scenario, Rule::Engine).expect("a run");
+    hold_story(&run);
+    assert!(!story(&run).iter().any(|line| line.starts_with("Phase")));
 }
 
 /// A single correct one that too many liars turn did not hold its bit throughout.

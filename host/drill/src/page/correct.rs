@@ -3,11 +3,11 @@
 use std::fmt::Write;
 
 use crate::facts::Told;
-use crate::page::markup::text;
+use crate::page::markup::{element, text};
 use crate::page::plan::{Lane, Plan, Stage, BOX, GUTTER, PITCH};
 use crate::page::short;
 use crate::run::{Round, Seen};
-use crate::words::numbers;
+use crate::words::codes;
 
 /// The room for text in a box.
 const ROOM: u32 = BOX - 14;
@@ -16,28 +16,23 @@ pub fn cells(plan: &Plan, lane: &Lane, stage: &Stage, place: usize) -> String {
     let mut out = String::new();
     for (column, round) in stage.rounds.iter().enumerate() {
         let (seen, x) = (&round.correct[place], stage.column(column));
-        out += &match is_quiet(seen, round.round) {
-            true => quiet(lane, seen, x),
+        out += &match seen.is_out(round.round) {
+            true => out_of_it(lane, seen, x),
             false => cell(plan, lane, place, round, x),
         };
     }
     out
 }
 
-/// Whether it had nothing to do with a round any more.
-pub fn is_quiet(seen: &Seen, round: u32) -> bool {
-    seen.state.round < round
-}
-
-/// A thin line; a broken one if it is stuck.
-fn quiet(lane: &Lane, seen: &Seen, x: u32) -> String {
-    let class = if seen.state.undecided() {
-        "stuck"
-    } else {
-        "quiet"
-    };
+/// A thin line; a broken one if it is stuck. Junk is refused all the same.
+fn out_of_it(lane: &Lane, seen: &Seen, x: u32) -> String {
     let (left, middle) = (x - GUTTER, lane.middle());
-    format!(r#"<path class="{class}" d="M{left} {middle}h{PITCH}"/>"#)
+    let class = seen.out();
+    let line = format!(r#"<path class="{class}" d="M{left} {middle}h{PITCH}"/>"#);
+    match seen.junk.is_empty() {
+        true => line,
+        false => line + &element(&format!(r#"g transform="translate({x})""#), &tag(seen)),
+    }
 }
 
 fn cell(plan: &Plan, lane: &Lane, place: usize, round: &Round, x: u32) -> String {
@@ -80,7 +75,7 @@ fn tag(seen: &Seen) -> String {
         (Some(refusal), _) => format!("stuck, refused {refusal}"),
         (None, false) => short::fitting(
             [
-                format!("refused {}", listed(&seen.junk)),
+                format!("refused {}", codes(&seen.junk)),
                 format!("refused {} times", seen.junk.len()),
             ],
             11,
@@ -97,12 +92,6 @@ pub fn bit_before(plan: &Plan, place: usize, round: u32) -> Option<u8> {
     let before = plan.run.rounds.get((round as usize).checked_sub(2)?)?;
     let before = before.correct[place].state.bit;
     (before != now).then_some(before)
-}
-
-/// Refusals, with a blank between them.
-pub fn listed(refusals: &[u8]) -> String {
-    let wide: Vec<u32> = refusals.iter().copied().map(u32::from).collect();
-    numbers(&wide)
 }
 
 fn spoken(number: u32, seen: &Seen, round: u32, before: Option<u8>) -> String {
@@ -122,7 +111,7 @@ fn spoken(number: u32, seen: &Seen, round: u32, before: Option<u8>) -> String {
         let _ = write!(out, "; king {}", state.king);
     }
     if !seen.junk.is_empty() {
-        let _ = write!(out, "; junk refused under {}", listed(&seen.junk));
+        let _ = write!(out, "; junk refused under {}", codes(&seen.junk));
     }
     if let Some(refusal) = seen.refused {
         let _ = write!(out, "; refuses its tray under {refusal} and is stuck");

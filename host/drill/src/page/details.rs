@@ -3,11 +3,11 @@
 use std::fmt::Write;
 
 use crate::facts::Told;
-use crate::page::correct::{bit_before, is_quiet, listed};
+use crate::page::correct::bit_before;
 use crate::page::markup::{element, escaped, text};
 use crate::page::plan::{Lane, Plan, Stage, Who};
-use crate::run::Round;
-use crate::words::{kind, numbers};
+use crate::run::{Round, Seen};
+use crate::words::{codes, kind, numbers};
 
 /// Tables of longer lines are closed at first.
 const MOST_OPEN: usize = 8;
@@ -74,8 +74,8 @@ fn row(plan: &Plan, lane: &Lane, stage: &Stage) -> String {
 fn correct(plan: &Plan, place: usize, round: &Round) -> String {
     let seen = &round.correct[place];
     let state = &seen.state;
-    if is_quiet(seen, round.round) {
-        return if state.undecided() { "stuck" } else { "quiet" }.into();
+    if seen.is_out(round.round) {
+        return seen.out().to_string() + &refused(seen);
     }
     let mut out = match state.undecided() {
         true => text("b", &Told::sent(&seen.sent, round.round).to_string()),
@@ -96,8 +96,14 @@ fn correct(plan: &Plan, place: usize, round: &Round) -> String {
         &state.candidates,
         before.map(|state| &state.candidates),
     );
+    out + &refused(seen)
+}
+
+/// Junk that it refused, and the tray.
+fn refused(seen: &Seen) -> String {
+    let mut out = String::new();
     if !seen.junk.is_empty() {
-        let _ = write!(out, "<br/>refused junk under {}", listed(&seen.junk));
+        let _ = write!(out, "<br/>refused junk under {}", codes(&seen.junk));
     }
     if let Some(refusal) = seen.refused {
         let _ = write!(out, "<br/>refused its tray under {refusal}: stuck");

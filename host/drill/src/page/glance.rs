@@ -9,7 +9,7 @@ use crate::page::markup::{element, text};
 use crate::page::plan::{Lane, Plan, Who};
 use crate::page::short;
 use crate::page::tone::Tone;
-use crate::run::{Round, Seen};
+use crate::run::Round;
 
 /// The heading with the numbers of phases and rounds, and the space between two phases.
 const HEAD: u32 = 38;
@@ -148,10 +148,10 @@ fn correct(plan: &Plan, grid: &Grid, place: usize, at: usize) -> String {
     let mut digits = String::new();
     for round in &plan.run.rounds {
         let (seen, now) = (&round.correct[at], round.round);
-        if seen.state.round < now {
+        if seen.is_out(now) {
             let middle = grid.y(place) + grid.row / 2;
             let line = format!("M{} {middle}h{}", grid.x(now), grid.cell);
-            *paths.entry(quiet(seen)).or_default() += &line;
+            *paths.entry(seen.out()).or_default() += &line;
             continue;
         }
         let outline = grid.outline(now, place, 0, 1);
@@ -160,13 +160,6 @@ fn correct(plan: &Plan, grid: &Grid, place: usize, at: usize) -> String {
         digits += &digit(grid, place, now, bit);
     }
     drawn(&paths) + &digits
-}
-
-fn quiet(seen: &Seen) -> &'static str {
-    match seen.state.undecided() {
-        true => "stuck",
-        false => "quiet",
-    }
 }
 
 fn digit(grid: &Grid, place: usize, round: u32, bit: u8) -> String {

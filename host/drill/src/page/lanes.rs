@@ -106,7 +106,7 @@ fn kings_words(plan: &Plan, phase: u32, room: u32) -> String {
     let kings: Vec<u32> = kings(plan.run, phase).into_keys().collect();
     match kings.len() {
         0 => String::new(),
-        1 => short::fitting([format!("king {}", kings[0])], 12, room),
+        1 => format!("king {}", kings[0]),
         many => {
             let choices = [format!("kings {}", named(&kings)), format!("{many} kings")];
             short::fitting(choices, 12, room)

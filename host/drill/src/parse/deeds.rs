@@ -3,7 +3,7 @@
 use std::collections::BTreeSet;
 use std::ops::RangeInclusive;
 
-use crate::parse::sayings::{bytes, sayings, starts_deed};
+use crate::parse::sayings::{bit, bytes, sayings, starts_deed};
 use crate::parse::tokens::{number, span, Words};
 use crate::parse::Parsed;
 use crate::scenario::{Deed, Junk, Saying, Scenario, Whom};
@@ -72,14 +72,7 @@ fn plays_along(words: &mut Words, scenario: &mut Scenario, who: Option<u32>) -> 
         return Err(words.at_next(what, "plays along, plays along with 1"));
     }
     if words.take_if(&["with"]) {
-        let bit = match words.take() {
-            Some("0") => 0,
-            Some("1") => 1,
-            Some(word) => {
-                return Err(words.at_last(format!("`{word}` is no bit"), "with 0, with 1"))
-            }
-            None => return Err(words.at_next("the bit is missing", "with 0, with 1")),
-        };
+        let bit = bit(words)?;
         let every: Vec<u32> = scenario.faulty.iter().copied().collect();
         for number in who.map_or(every, |number| vec![number]) {
             let before = *scenario.behind.entry(number).or_insert(bit);

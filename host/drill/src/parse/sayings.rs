@@ -106,7 +106,7 @@ fn saying(words: &mut Words, scenario: &Scenario, rounds: &RangeInclusive<u32>) 
     })
 }
 
-fn bit(words: &mut Words) -> Parsed<u8> {
+pub fn bit(words: &mut Words) -> Parsed<u8> {
     match words.take() {
         Some("0") => Ok(0),
         Some("1") => Ok(1),
@@ -152,7 +152,9 @@ fn list(words: &mut Words) -> Parsed<Vec<u32>> {
 
 fn repeated(words: &mut Words, scenario: &Scenario) -> Parsed<u32> {
     let form = format!("a correct one: {}", words::numbers(scenario.correct.keys()));
-    let word = words.take().unwrap_or_default();
+    let Some(word) = words.take() else {
+        return Err(words.at_next("it is not said whom", form));
+    };
     match number(word) {
         Some(number) if scenario.correct.contains_key(&number) => Ok(number),
         _ => Err(words.at_last(format!("`{word}` is no correct one"), form)),

@@ -39,15 +39,13 @@ pub fn when(words: &mut Words) -> Parsed<(RangeInclusive<u32>, u64)> {
 }
 
 fn seed(words: &mut Words) -> Parsed<u64> {
-    let word = words.take().unwrap_or_default();
-    let seed = number(word).map(u64::from);
+    let form = "a number up to 4294967295, then what is done: seed 17 3 tells each: anything";
+    let Some(word) = words.take() else {
+        return Err(words.at_next("the seed is missing", form));
+    };
     let what = format!("`{word}` is no seed");
-    seed.ok_or_else(|| {
-        words.at_last(
-            what,
-            "a number, then what is done: seed 17 3 tells each: anything",
-        )
-    })
+    let seed = number(word).map(u64::from);
+    seed.ok_or_else(|| words.at_last(what, form))
 }
 
 fn round_span(words: &mut Words, form: &str) -> Parsed<RangeInclusive<u32>> {

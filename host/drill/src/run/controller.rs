@@ -79,7 +79,8 @@ impl Controller {
     /// The printed rule: whoever would name a king again decides its bit and sends no more.
     /// Document 002 takes the candidate at place r modulo their count c. Here r is below c, or the
     /// reference has decided: who has not stopped has named r different candidates in r
-    /// phases, so that r = c means all of them, and the next one was named before.
+    /// phases, so that r = c means all of them, and the next one was named before. With no
+    /// candidate at all there is nobody to name, and the reference decides too.
     fn stop_as_printed(&mut self) {
         let mut state = self.state();
         if !state.undecided() || kind_of(state.round) != VALUE {

@@ -3,7 +3,7 @@
 use checks::packing::{pack, Entry};
 use checks::random::Random;
 
-use crate::scenario::{Junk, MOST_LISTED};
+use crate::scenario::{Junk, MOST_ON_LINE};
 
 /// How many bytes of noise the cable gives at most.
 const MOST_NOISE: usize = 40;
@@ -28,7 +28,7 @@ pub fn bytes(junk: &Junk, random: &mut Random, round: u32, receiver: u32, tray: 
         Junk::Forged => pack(round, &[empty(receiver)]),
         Junk::Crowd => {
             let others = (1..).filter(|&number| number != receiver);
-            let crowd: Vec<Entry> = others.take(MOST_LISTED + 1).map(empty).collect();
+            let crowd: Vec<Entry> = others.take(MOST_ON_LINE + 1).map(empty).collect();
             pack(round, &crowd)
         }
         Junk::Bytes(bytes) => bytes.clone(),

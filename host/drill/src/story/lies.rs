@@ -4,19 +4,19 @@ use std::cmp::Reverse;
 
 use crate::facts::{groups, Group, Reading};
 use crate::run::{Round, Run};
-use crate::story::MOST_LIARS;
+use crate::story::MOST_TOLD;
 use crate::words::{short_named, times};
 
 /// What the faulty ones did, the busiest liars first if there are many.
 pub fn lies(run: &Run) -> Vec<String> {
     let all = run.scenario.faulty.iter().enumerate();
     let mut lies: Vec<(usize, String)> = all.map(|(place, &n)| lie(run, place, n)).collect();
-    if lies.len() <= MOST_LIARS {
+    if lies.len() <= MOST_TOLD {
         return lies.into_iter().map(|(_, line)| line).collect();
     }
     lies.sort_by_key(|(apart, _)| Reverse(*apart));
-    let others = lies.len() - MOST_LIARS;
-    let busiest = lies.into_iter().take(MOST_LIARS).map(|(_, line)| line);
+    let others = lies.len() - MOST_TOLD;
+    let busiest = lies.into_iter().take(MOST_TOLD).map(|(_, line)| line);
     let rest = format!("For {} more see the table.", times(others, "card"));
     busiest.chain([rest]).collect()
 }

@@ -20,8 +20,12 @@ pub fn phases(run: &Run) -> Vec<String> {
     }
     // A phase moves bits in the making of its turn and of the value after it.
     let last = united.unwrap_or(run.last()).round.saturating_sub(5) / 3;
-    let mut lines: Vec<String> = (0..=last).map(|phase| told(run, phase)).collect();
-    if lines.len() > MOST_PHASES {
+    let reigned = |phase: &u32| !kings(run, *phase).is_empty();
+    let mut lines: Vec<String> = (0..=last)
+        .filter(reigned)
+        .map(|phase| told(run, phase))
+        .collect();
+    if lines.len() > MOST_PHASES + 1 {
         let behind = lines.len() - (MOST_PHASES - FIRST_PHASES);
         let between = format!("Phases {FIRST_PHASES} to {} did not settle it.", behind - 1);
         lines.splice(FIRST_PHASES..behind, [between]);
@@ -52,17 +56,16 @@ fn told(run: &Run, phase: u32) -> String {
 
 /// Why nobody changed its bit, where that can be said of all.
 fn unmoved(turn: &Round) -> &'static str {
-    let mut at_work = turn
-        .correct
-        .iter()
-        .filter(|seen| seen.state.round == turn.round);
-    match at_work.all(|seen| seen.state.strong == 1) {
+    let at_work = turn.correct.iter();
+    let mut at_work = at_work.filter(|seen| !seen.is_out(turn.round)).peekable();
+    match at_work.peek().is_some() && at_work.all(|seen| seen.state.strong == 1) {
         true => "each had heard two thirds propose its own bit, and kept it",
         false => "nobody changed its bit",
     }
 }
 
-fn named_kings(run: &Run, phase: u32) -> String {
+/// The kings of a phase, and where they differ for whom each is one.
+pub fn named_kings(run: &Run, phase: u32) -> String {
     let kings = kings(run, phase);
     let all = kings.len();
     let king = |(king, by): (u32, Vec<u32>)| {

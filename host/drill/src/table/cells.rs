@@ -37,27 +37,21 @@ pub fn cell(run: &Run, place: usize, number: u32) -> Vec<Line> {
     }
 }
 
-/// What a correct one sent, and its state.
+/// What a correct one sent, its state, and what it refused.
 fn seen(round: &Round, seen: &Seen, before: Option<&Seen>) -> Vec<Line> {
     let state = &seen.state;
-    let decided_now = state.round == round.round && !state.undecided();
-    let mut lines = match (seen.sent.is_empty(), state.undecided()) {
-        (false, _) => vec![Line::of(
-            &Told::sent(&seen.sent, round.round).short(),
-            Style::Plain,
-        )],
-        (true, true) => return vec![Line::of("stuck", Style::Bad)],
-        (true, false) if decided_now => {
-            vec![Line::of(
-                &format!("DECIDED {}", state.decision),
-                Style::Good,
-            )]
+    let mut lines = match (seen.is_out(round.round), state.undecided()) {
+        (true, true) => vec![Line::of(seen.out(), Style::Bad)],
+        (true, false) => vec![Line::of(seen.out(), Style::Faint)],
+        (false, true) => {
+            let sent = Told::sent(&seen.sent, round.round).short();
+            vec![Line::of(&sent, Style::Plain), held(seen, before)]
         }
-        (true, false) => vec![Line::of("quiet", Style::Faint)],
+        (false, false) => {
+            let decided = format!("DECIDED {}", state.decision);
+            vec![Line::of(&decided, Style::Good), held(seen, before)]
+        }
     };
-    if decided_now || state.undecided() {
-        lines.push(held(seen, before));
-    }
     let refused = |refusal: &u8| Line::of(&format!("junk refused {refusal}"), Style::Faint);
     lines.extend(seen.junk.iter().map(refused));
     if let Some(refusal) = seen.refused {
