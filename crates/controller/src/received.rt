@@ -1,19 +1,19 @@
 // What is received in a round: who is heard, and what the frame under each heard number says.
 ghost use mathlib.Core.Bool.{true, cond};
-ghost use mathlib.Core.Logic.{_≢_};
 ghost use mathlib.Core.Path.{_≡_};
-ghost use Prim.Native.Nat.{_≤_};
+ghost use Prim.Native.Nat.{ℕ, _≤_};
 ghost use lib.Dec.{eqb};
 ghost use lib.ListN.{replicate};
 ghost use Rattle.wire.specs.Lent.{before, after};
 ghost use Rattle.wire.specs.Frame.{content, kindOf, bitIn};
+ghost use Rattle.wire.specs.Heads.{Short, headOf};
 ghost use Rattle.wire.specs.Limits.{maxNumbers};
 ghost use Rattle.wire.specs.Numbers.{listed};
 ghost use Rattle.wire.specs.Notes.{noFrame};
 ghost use Rattle.wire.specs.Tray.{wellFormed, entries};
 ghost use Rattle.controller.specs.State.{soundList};
 ghost use Rattle.controller.specs.Received.{senders, readIn};
-ghost use Rattle.controller.specs.Work.Received.{noted, othersOnly, receivedBy, Hears, bitUnder, CountsBits, AnyReady, sentCount, CountsFew};
+ghost use Rattle.controller.specs.Work.Received.{noted, othersOnly, receivedBy, Hears, bitUnder, Votes, CountsBits, AnyReady, sentCount, CountsFew};
 ghost use Rattle.controller.specs.Work.Lists.{inPlaces};
 use crate::lists::ABSENT;
 use crate::lists::find_near;
@@ -29,8 +29,11 @@ use wire::frame::bit_said;
 use wire::frame::kind_of;
 use wire::frame::max_count;
 use wire::limits::ENTRY_WIDTH;
+use wire::limits::FRAME_HEADER;
 use wire::limits::MAX_NUMBERS;
+use wire::read::head_of;
 use wire::read::read_frame;
+use wire::read::read_head;
 use wire::tray::directory;
 use wire::tray::entry_count;
 use wire::tray::entry_place;
@@ -165,17 +168,40 @@ pub(crate) struct Counts {
     pub ones: usize,
 }
 
+// The bit received with a note in a round whose frames list nothing, as `received_bit` has it where that is 0 or 1. Such a frame is eight bytes: those of
+// the one that says 0, of the one that says 1, or any others.
+fn short_bit(zero: u64, one: u64, absent: u8, tray: &[u8], note: u32) -> u8
+    ensures { λ r. ⌜ ((t : ℕ) → Short t → zero ≡ headOf t 0 → one ≡ headOf t 1 → Votes t absent (before tray) note r) ⌝ }
+{
+    if note == NO_FRAME {
+        return absent;
+    }
+    if note as usize % 65536 != FRAME_HEADER {
+        return NOTHING_SAID;
+    }
+    let head = read_head(tray, note as usize / 65536);
+    if head == zero {
+        0
+    } else if head == one {
+        1
+    } else {
+        NOTHING_SAID
+    }
+}
+
 // Counts the values or the proposals of the round, bit by bit. Who has no entry, oneself or one that is silent, says what oneself says.
 pub(crate) fn count_bits(fields: Fields, tray: &[u8], notes: &[u32; MAX_NUMBERS]) -> Counts
     requires { ⌜ fields .heard ≤ maxNumbers ⌝ }
     ensures { λ r. ⌜ CountsFew (fields .heard) r
-        × AnyReady fields tray notes (λ s b. kindOf (s .round) ≢ 5 → CountsBits (kindOf (s .round)) (receivedBy s b) r) ⌝ }
+        × AnyReady fields tray notes (λ s b. Short (s .round) → CountsBits (kindOf (s .round)) (receivedBy s b) r) ⌝ }
 {
+    let zero = head_of(fields.round, 0);
+    let one = head_of(fields.round, 1);
     let mut zeros = 0;
     let mut ones = 0;
     let mut j = 0;
     while j < fields.heard {
-        let bit = received_bit(fields.round, fields.said, tray, notes[j]);
+        let bit = short_bit(zero, one, fields.said, tray, notes[j]);
         zeros += one_if(bit, 0);
         ones += one_if(bit, 1);
         j += 1;

@@ -4,6 +4,7 @@ pub mod Causes
 pub mod Damage
 pub mod Found
 pub mod Frame
+pub mod Heads
 pub mod Notes
 pub mod Numbers
 pub mod Stores

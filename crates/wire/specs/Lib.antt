@@ -8,5 +8,6 @@ pub mod Frame
 pub mod Tray
 pub mod Found
 pub mod Notes
+pub mod Heads
 pub mod Trials
 pub mod Laws

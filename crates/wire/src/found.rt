@@ -54,9 +54,9 @@ fn same_bytes(a: &[u8], b: &[u8]) -> bool
     if end != b.len() {
         return false;
     }
-    while 32 <= end {
-        end -= 32;
-        if !same_span(a, b, end, 32) {
+    while 64 <= end {
+        end -= 64;
+        if !same_span(a, b, end, 64) {
             return false;
         }
     }

@@ -8,6 +8,7 @@ ghost use Rattle.wire.specs.Lent.{before};
 ghost use Rattle.wire.specs.Limits.{frameHeader, numberWidth};
 ghost use Rattle.wire.specs.Numbers.{rising};
 ghost use Rattle.wire.specs.Words.{wordAt, wordsAt};
+ghost use Rattle.wire.specs.Heads.{headOf, headFrom};
 ghost use Rattle.wire.specs.Frame.{countOf, lengthFits, headFits, listFits, bodyFits, readRefusal, FrameReads};
 use crate::frame::Frame;
 use crate::frame::Read;
@@ -47,6 +48,27 @@ pub fn read_number(bytes: &[u8], at: usize) -> u32
     }
     if at <= bytes.len() - NUMBER_WIDTH {
         word(bytes, at)
+    } else {
+        0
+    }
+}
+
+// The header of a frame of a round that says a bit and lists nothing: its eight bytes as one number.
+pub fn head_of(round: u32, bit: u8) -> u64
+    ensures { λ r. ⌜ r ≡ headOf round bit ⌝ }
+{
+    round as u64 * 4294967296 + kind_of(round) as u64 * 16777216 + bit as u64 * 65536
+}
+
+// The eight bytes from a place on as one number; 0 where the bytes end before them.
+pub fn read_head(bytes: &[u8], at: usize) -> u64
+    ensures { λ r. ⌜ r ≡ headFrom (before bytes) at ⌝ }
+{
+    if bytes.len() < FRAME_HEADER {
+        return 0;
+    }
+    if at <= bytes.len() - FRAME_HEADER {
+        word(bytes, at) as u64 * 4294967296 + word(bytes, at + 4) as u64
     } else {
         0
     }

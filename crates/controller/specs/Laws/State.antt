@@ -235,6 +235,9 @@ since-places s h =
 pub sound-gives : (s : State) → sound s ≡ true → Sound (view s)
 sound-gives s h = rules-give s (sound-rules s h)
 
+pub rules-round : (s : State) → soundRules s ≡ true → roundFits (s .round) ≡ true
+rules-round s h = tests-give s h .round
+
 pub rules-heard : (s : State) → soundRules s ≡ true → soundList (s .heard) ≡ true
 rules-heard s h = tests-give s h .heard
 

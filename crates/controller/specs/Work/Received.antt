@@ -10,6 +10,7 @@
 --     WhereReady f h b t P     P holds of each state with the fields f, where h are those heard, and of the tray b, if it is ready
 --     AnyReady f b t P         the same, whoever is heard
 --     bitUnder t d b k         the bit of the frame that the note k is of, read in round t; d where it is of none, 3 where it is of a void frame or of several
+--     Votes t d b k r          r is that bit where it is 0 or 1, and neither of them where it is not
 --     CountsBits k r n         n has how many of those heard sent each bit in a frame of kind k, where r was received
 --     CountsFew h n            neither count is above h
 --     sentCount f              how many numbers the own frame lists
@@ -64,6 +65,9 @@ pub record Ready (s : State) (b f : List ℕ) : Type 0 where
 
 abbrev pub bitUnder : ℕ → ℕ → List ℕ → ℕ → ℕ
 bitUnder round absent b k = cond (eqb k noFrame) absent (bitIn (readIn round (noted b k)))
+
+abbrev pub Votes : ℕ → ℕ → List ℕ → ℕ → ℕ → Type 0
+Votes round absent b k r = (bit : ℕ) → bit < 2 → eqb r bit ≡ eqb (bitUnder round absent b k) bit
 
 pub record CountsBits (k : ℕ) (r : Received) (n : Counts) : Type 0 where
   pub zeros : n .zeros ≡ count (says k 0) r

@@ -331,12 +331,12 @@ head-gives s t h =
     let e₁ = and-eq-true-iff (roundFits t) (eqb (wordAt s 0) t) .0 (e₂ .0) in
     record { round = e₁ .0; sent = eqb-true _ _ (e₁ .1); kind = eqb-true _ _ (e₂ .1) }
 
-record BodyFits (s : List ℕ) (k : ℕ) : Type 0 where
-  bit : bitFits k (getD s bitAt 0) ≡ true
-  count : countOf s ≤ maxCount k
-  rise : rising 0 (numbersOf s) ≡ true
+pub record BodyFits (s : List ℕ) (k : ℕ) : Type 0 where
+  pub bit : bitFits k (getD s bitAt 0) ≡ true
+  pub count : countOf s ≤ maxCount k
+  pub rise : rising 0 (numbersOf s) ≡ true
 
-body-gives : (s : List ℕ) (k : ℕ) → bodyFits s k ≡ true → BodyFits s k
+pub body-gives : (s : List ℕ) (k : ℕ) → bodyFits s k ≡ true → BodyFits s k
 unfolding bodyFits
 body-gives s k h =
     let e₁ = and-eq-true-iff (bitFits k (getD s bitAt 0)) (listFits s k) .0 h in

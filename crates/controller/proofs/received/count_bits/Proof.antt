@@ -2,7 +2,6 @@
 use Prim.Native.Nat.{ℕ, _+_, _-_, _≤_, _<_}
 use mathlib.Core.Bool.{Bool, true, false, cond}
 use mathlib.Core.List.{List}
-use mathlib.Core.Logic.{_≢_}
 use mathlib.Core.Path.{_≡_, refl, sym, ap, _∙_}
 use native.Mathlib.Omega.{arith}
 use borrow.Author.Needs.{needs}
@@ -14,9 +13,10 @@ use Rattle.controller.specs.Laws.Lists.{count-further}
 use Rattle.controller.specs.Laws.Work.Ready.{ready-listed, ready-used, ready-says}
 use Rattle.controller.specs.Lists.{countIf}
 use Rattle.controller.specs.Received.{says}
-use Rattle.controller.specs.Work.Received.{receivedBy, Ready, bitUnder}
+use Rattle.controller.specs.Work.Received.{receivedBy, Ready, Votes}
 use Rattle.controller.specs.declared.state.State.{State}
 use Rattle.wire.specs.Frame.{kindOf}
+use Rattle.wire.specs.Heads.{Short}
 use Rattle.wire.specs.Limits.{maxNumbers}
 use Rattle.wire.specs.Numbers.{listed}
 use Rattle.controller.proofs.received.count_bits.Statement.{statement}
@@ -32,12 +32,12 @@ total s b bit j = countIf (counted s b bit) (take j (listed (s .heard)))
 
 module _ {s : State} {b f : List ℕ} (ready : Ready s b f) (bit j n : ℕ) (sum : n ≡ total s b bit j) where
   -- one turn: the bit d that is read at place j, counted
-  turn : (d one : ℕ) → bit < 3 → j < s .heard .len → kindOf (s .round) ≢ 5
-      → d ≡ bitUnder (s .round) (s .said) b (getD f j 0) → one ≡ cond (eqb d bit) 1 0
+  turn : (d one : ℕ) → bit < 2 → j < s .heard .len → Short (s .round)
+      → Votes (s .round) (s .said) b (getD f j 0) d → one ≡ cond (eqb d bit) 1 0
       → n + one ≡ total s b bit (j + 1)
-  turn d one l h other read asked =
+  turn d one l h short read asked =
       let more : one ≡ cond (counted s b bit (getD (listed (s .heard)) j 0)) 1 0 =
-      asked ∙ ap (λ (t : Bool). cond t 1 0) (ap (λ (i : ℕ). eqb i bit) read ∙ ready-says ready j bit h l other) in
+      asked ∙ ap (λ (t : Bool). cond t 1 0) (read bit l ∙ ready-says ready j bit h (omega arith) (λ e. omega (arith, short .most))) in
       rw (sum, more) (sym (count-further (counted s b bit) (listed (s .heard)) j (omega (arith, h, ready-used ready))))
 
   -- the last turn has counted all of them
@@ -45,15 +45,15 @@ module _ {s : State} {b f : List ℕ} (ready : Ready s b f) (bit j n : ℕ) (sum
   ended h = sum ∙ ap (countIf (counted s b bit)) (take-all j (listed (s .heard)) (omega (arith, h, ready-used ready)) ∙ ready-listed ready)
 
 abbrev Inv-loop : tie.InvT-loop
-Inv-loop fields tray notes zeros₀ ones₀ j₀ zeros ones j =
+Inv-loop fields tray notes zero one zeros₀ ones₀ j₀ zeros ones j =
     (j ≤ fields .heard)
     × (zeros ≤ j)
     × (ones ≤ j)
-    × ((h c e : List ℕ) → Ready (stateOf fields h c e) tray notes → kindOf (fields .round) ≢ 5
+    × ((h c e : List ℕ) → Ready (stateOf fields h c e) tray notes → Short (fields .round)
     → (zeros ≡ total (stateOf fields h c e) tray 0 j) × (ones ≡ total (stateOf fields h c e) tray 1 j))
 
 abbrev μ-loop : tie.MeasureT-loop
-μ-loop fields tray notes zeros₀ ones₀ j₀ zeros ones j = fields .heard - j
+μ-loop fields tray notes zero one zeros₀ ones₀ j₀ zeros ones j = fields .heard - j
 
 one-most : (d bit : ℕ) → cond (eqb d bit) 1 0 ≤ 1
 one-most d bit = pick (eqb d bit)
@@ -63,27 +63,36 @@ one-most d bit = pick (eqb d bit)
     pick false = omega arith
 
 -- what was given, and the turn in which a bit is received
-abbrev given : tie.At-loop Inv-loop μ-loop → tie.Start Inv-loop μ-loop
-given c = c .before .before
+abbrev heads : tie.At-loop Inv-loop μ-loop → tie.After-head-of2 Inv-loop μ-loop
+heads c = c .before
 
-abbrev in-turn : tie.After-received-bit Inv-loop μ-loop → tie.Then1 Inv-loop μ-loop
+abbrev given : tie.At-loop Inv-loop μ-loop → tie.Start Inv-loop μ-loop
+given c = heads c .before .before .before
+
+abbrev in-turn : tie.After-short-bit Inv-loop μ-loop → tie.Then1 Inv-loop μ-loop
 in-turn c = c .before .before
 
 -- a place of the list is one of 64
 inside : (c : tie.Then1 Inv-loop μ-loop) → c .before .before .loop .j < maxNumbers
 inside c = omega (arith, c .if1 .taken, given (c .before .before) .pre)
 
+head-of-requires : tie.Need-head-of-requires Inv-loop μ-loop
+head-of-requires c κs = search needs
+
+head-of-requires-2 : tie.Need-head-of-requires-2 Inv-loop μ-loop
+head-of-requires-2 c κs = search needs
+
 loop-holds : tie.Need-loop-holds Inv-loop μ-loop
-loop-holds c = (omega arith, omega arith, omega arith, λ h x e ready other. (refl, refl))
+loop-holds c = (omega arith, omega arith, omega arith, λ h x e ready short. (refl, refl))
 
-mul-received-bit : tie.Need-mul-received-bit Inv-loop μ-loop
-mul-received-bit c = omega (arith, inside c)
+mul-short-bit : tie.Need-mul-short-bit Inv-loop μ-loop
+mul-short-bit c = omega (arith, inside c)
 
-element-copy-out-received-bit : tie.Need-element-copy-out-received-bit Inv-loop μ-loop
-element-copy-out-received-bit c = omega (arith, inside c)
+element-copy-out-short-bit : tie.Need-element-copy-out-short-bit Inv-loop μ-loop
+element-copy-out-short-bit c = omega (arith, inside c)
 
-received-bit-requires : tie.Need-received-bit-requires Inv-loop μ-loop
-received-bit-requires c κs = search needs
+short-bit-requires : tie.Need-short-bit-requires Inv-loop μ-loop
+short-bit-requires c κs = search needs
 
 one-if-requires : tie.Need-one-if-requires Inv-loop μ-loop
 one-if-requires c κs = search needs
@@ -91,7 +100,7 @@ one-if-requires c κs = search needs
 add-zeros : tie.Need-add-zeros Inv-loop μ-loop
 add-zeros c =
     let v = in-turn (c .before) .before .before .loop in
-    omega (arith, inside (in-turn (c .before)), v .inv .1, c .one-if .ensures, one-most (c .before .received-bit .result) 0)
+    omega (arith, inside (in-turn (c .before)), v .inv .1, c .one-if .ensures, one-most (c .before .short-bit .result) 0)
 
 one-if-requires-2 : tie.Need-one-if-requires-2 Inv-loop μ-loop
 one-if-requires-2 c κs = search needs
@@ -99,7 +108,7 @@ one-if-requires-2 c κs = search needs
 add-ones : tie.Need-add-ones Inv-loop μ-loop
 add-ones c =
     let v = in-turn (c .before .before) .before .before .loop in
-    omega (arith, inside (in-turn (c .before .before)), v .inv .2, c .one-if2 .ensures, one-most (c .before .before .received-bit .result) 1)
+    omega (arith, inside (in-turn (c .before .before)), v .inv .2, c .one-if2 .ensures, one-most (c .before .before .short-bit .result) 1)
 
 add-j : tie.Need-add-j Inv-loop μ-loop
 add-j c = omega (arith, inside (in-turn (c .before .before)))
@@ -112,14 +121,16 @@ loop-again c =
     let at-loop = in-turn (c .before .before) .before .before in
     let v = at-loop .loop in
     let h = in-turn (c .before .before) .if1 .taken in
-    let bit = c .before .before .received-bit in (
+    let bit = c .before .before .short-bit in
+    let made = heads at-loop in (
       omega (arith, h),
       omega (arith, v .inv .1, c .before .one-if .ensures, one-most (bit .result) 0),
       omega (arith, v .inv .2, c .one-if2 .ensures, one-most (bit .result) 1),
-      λ heard x e ready other.
-          let so-far = v .inv .3 heard x e ready other in (
-            turn ready 0 (v .j) (v .zeros) (so-far .0) _ _ (omega arith) h other (bit .ensures) (c .before .one-if .ensures),
-            turn ready 1 (v .j) (v .ones) (so-far .1) _ _ (omega arith) h other (bit .ensures) (c .one-if2 .ensures),
+      λ heard x e ready short.
+          let so-far = v .inv .3 heard x e ready short in
+          let said = bit .ensures _ short (made .before .head-of .ensures) (made .head-of2 .ensures) in (
+            turn ready 0 (v .j) (v .zeros) (so-far .0) _ _ (omega arith) h short said (c .before .one-if .ensures),
+            turn ready 1 (v .j) (v .ones) (so-far .1) _ _ (omega arith) h short said (c .one-if2 .ensures),
           ),
     )
 
@@ -127,8 +138,8 @@ returns : tie.Need-returns Inv-loop μ-loop
 returns c =
     let v = c .before .before .loop in (
       (omega (arith, v .inv .0, v .inv .1), omega (arith, v .inv .0, v .inv .2)),
-      λ h x e ready other.
-          let counts = v .inv .3 h x e ready other in
+      λ h x e ready short.
+          let counts = v .inv .3 h x e ready short in
           record {
             zeros = ended ready 0 (v .j) (v .zeros) (counts .0) (c .if1 .left);
             ones = ended ready 1 (v .j) (v .ones) (counts .1) (c .if1 .left);
@@ -141,10 +152,12 @@ count-bits-spec =
     (tie.spec
     Inv-loop
     μ-loop
+    head-of-requires
+    head-of-requires-2
     loop-holds
-    mul-received-bit
-    element-copy-out-received-bit
-    received-bit-requires
+    mul-short-bit
+    element-copy-out-short-bit
+    short-bit-requires
     one-if-requires
     add-zeros
     one-if-requires-2

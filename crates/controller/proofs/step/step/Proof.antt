@@ -7,10 +7,11 @@ use denote.Ref.{now}
 use Rattle.controller.specs.Fields.{stateGiven}
 use Rattle.controller.specs.Laws.Work.Ready.{ready-few}
 use Rattle.controller.specs.Laws.Rules.{kind-above, kind-before}
-use Rattle.controller.specs.Laws.State.{rules-give}
+use Rattle.controller.specs.Laws.State.{rules-give, rules-round}
 use Rattle.controller.specs.Laws.Work.Step.{echoes-empty}
 use Rattle.controller.specs.Work.Received.{receivedBy, CountsBits}
 use Rattle.wire.specs.Frame.{kindOf}
+use Rattle.wire.specs.Heads.{Short}
 use Rattle.wire.specs.Laws.Frame.{kind-range}
 use Rattle.controller.proofs.step.step.Statement.{statement}
 use Rattle.controller.proofs.step.step.Tie as tie
@@ -41,9 +42,11 @@ counted : (c : tie.After-count-bits) (k : ℕ)
     let s = stateGiven (start .args .fields) (start .args .heard) (start .args .candidates) (start .args .echoes) in
     k < 2 → kindOf (s .round + 1) ≡ 4 + k → CountsBits (3 + k) (receivedBy s (now (start .args .tray))) (c .count-bits .result)
 counted c k few e =
-    let ready = (given (next-kind c)) .pre .0 in
+    let start = given (next-kind c) in
+    let ready = start .pre .0 in
     let kind = kind-before _ k (rules-give _ (ready .sound) .early) e in
-    rw kind at (c .count-bits .ensures .1 _ _ _ ready (λ q. absurd (omega arith)))
+    let short : Short (start .args .fields .round) = record { fits = rules-round _ (ready .sound); least = omega arith; most = omega arith } in
+    rw kind at (c .count-bits .ensures .1 _ _ _ ready short)
 
 add-kind-of : tie.Need-add-kind-of
 add-kind-of c = omega (arith, c .before .before .pre .1)

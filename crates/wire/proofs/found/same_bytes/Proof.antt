@@ -74,13 +74,13 @@ loop-holds : tie.Need-loop-holds Inv-loop μ-loop Inv-loop2 μ-loop2
 loop-holds c = let a = c .before .before .before .args in at-end (now (a .a)) (now (a .b)) (c .if1 .left)
 
 same-span-requires : tie.Need-same-span-requires Inv-loop μ-loop Inv-loop2 μ-loop2
-same-span-requires c κs = let p = given (c .before) in inside (p .0) (p .1) _ 32 (c .loop-test .taken) (c .before .loop .inv)
+same-span-requires c κs = let p = given (c .before) in inside (p .0) (p .1) _ 64 (c .loop-test .taken) (c .before .loop .inv)
 
 returns-2 : tie.Need-returns-2 Inv-loop μ-loop Inv-loop2 μ-loop2
 returns-2 c =
     let turn = c .before .before in
     let p = given (turn .before) in
-    differs (p .0) (p .1) _ 32 (turn .loop-test .taken) (turn .before .loop .inv) _ (c .before .same-span .ensures) (not-true _ (c .if2 .taken))
+    differs (p .0) (p .1) _ 64 (turn .loop-test .taken) (turn .before .loop .inv) _ (c .before .same-span .ensures) (not-true _ (c .if2 .taken))
 
 loop-less : tie.Need-loop-less Inv-loop μ-loop Inv-loop2 μ-loop2
 loop-less c = search needs
@@ -89,7 +89,7 @@ loop-again : tie.Need-loop-again Inv-loop μ-loop Inv-loop2 μ-loop2
 loop-again c =
     let turn = c .before .before in
     let p = given (turn .before) in
-    same (p .0) (p .1) _ 32 (turn .loop-test .taken) (turn .before .loop .inv) _ (c .before .same-span .ensures) (not-false _ (c .if2 .left))
+    same (p .0) (p .1) _ 64 (turn .loop-test .taken) (turn .before .loop .inv) _ (c .before .same-span .ensures) (not-false _ (c .if2 .left))
 
 loop2-holds : tie.Need-loop2-holds Inv-loop μ-loop Inv-loop2 μ-loop2
 loop2-holds c = c .before .loop .inv
