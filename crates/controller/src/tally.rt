@@ -1,9 +1,12 @@
 // The tally of the received lists, and what it makes of echoes and candidates. The lists rise, so one walk goes along all of them together, least number
 // first. It passes each place of a list once, and a number is settled as soon as it is passed.
-ghost use mathlib.Core.Bool.{false};
+ghost use mathlib.Core.Bool.{false, cond};
 ghost use mathlib.Core.List.{[]};
 ghost use mathlib.Core.Path.{_≡_};
+ghost use Prim.Native.Nat.{_*_, _≤_};
+ghost use lib.Dec.{ltb};
 ghost use Rattle.wire.specs.Lent.{before, after};
+ghost use Rattle.wire.specs.Limits.{maxNumbers};
 ghost use Rattle.wire.specs.Numbers.{stored};
 ghost use Rattle.controller.specs.Fields.{stateBefore, stateGiven};
 ghost use Rattle.controller.specs.Work.Received.{Ready};
@@ -166,6 +169,15 @@ fn walk(
     )
 }
 
+// How many of the `len` open lists are gone along: only the own one, where more than two thirds of `h` sent it. Its numbers have reached two thirds then, and
+// no other number can reach a third.
+fn telling(len: usize, equal: usize, h: usize) -> usize
+    requires { ⌜ (equal ≤ maxNumbers) × (h ≤ maxNumbers) ⌝ }
+    ensures { λ r. ⌜ r ≡ cond (ltb (2 * h) (3 * equal)) 1 len ⌝ }
+{
+    if 2 * h < 3 * equal { 1 } else { len }
+}
+
 // Opens the received lists and goes along them. `own` are the echoes that were, `echoed` those that come, none at first; `candidates` grow.
 fn tally(
     fields: Fields,
@@ -191,13 +203,14 @@ fn tally(
         &mut counts,
         &mut sent,
     );
+    let used = telling(len, sent[0], fields.heard);
     walk(
         own,
         tray,
         &starts,
         &counts,
         &sent,
-        len,
+        used,
         fields.heard,
         fields.candidates,
         echoed,

@@ -5,6 +5,7 @@ pub mod Grow
 pub mod Heads
 pub mod Hears
 pub mod Lists
+pub mod Majority
 pub mod Moved
 pub mod Opened
 pub mod Ready
