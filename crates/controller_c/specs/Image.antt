@@ -1,12 +1,13 @@
 -- The image of a state, 1,024 bytes that a host keeps: the page docs/IMAGE.md, and document 01, "A controller's state", with document 02's A8.
 --     imageBytes, ownAt, ..     the image's length and the offsets of its fields
 --     listBytes n               a list's 260 bytes: its count, then its 64 places
+--     zerosFrom at              as many zeros as an image has bytes from at on
 --     laidOut s                 the bytes of the state s
+--     placesAt b at             the 64 places that stand in b from at on
 --     listAt b at               the list that stands in b from at on
 --     roundsAt b                the record that stands in b
 --     takenApart b              the state in the bytes b
 --     withLists s b             the bytes b with the lists of the state s in their places
---     noPlaces                  the 64 places of an empty list
 --     zeros l                   each number of l is 0
 --     shaped b                  the bytes are as many as an image has, and the reserved ones are 0
 --     soundImage b              so they are, and the state in them is sound
@@ -17,10 +18,10 @@ use lib.Dec.{eqb}
 use lib.ListN.{length, getD, drop, replicate}
 use lib.Seq.{sets, slice}
 use Rattle.wire.specs.Limits.{maxNumbers}
-use Rattle.wire.specs.Words.{wordAt, wordBytes, wordsAt, wordsBytes}
 use Rattle.wire.specs.declared.frame.Numbers.{Numbers}
 use Rattle.controller.specs.State.{sound}
 use Rattle.controller.specs.declared.state.State.{State}
+use Rattle.controller_c.specs.Words.{numberAt, numberBytes, numbersAt, numbersBytes}
 
 -- ---- the table. The code names the same numbers in src/layout.rt
 
@@ -77,13 +78,13 @@ listWidth = 260
 -- the fields before the lists
 abbrev pub headBytes : State → List ℕ
 headBytes s =
-    wordBytes (s .own)
-    ++ (wordBytes (s .round)
-    ++ (s .bit ∷ s .said ∷ s .strong ∷ (wordBytes (s .king)
+    numberBytes (s .own)
+    ++ (numberBytes (s .round)
+    ++ (s .bit ∷ s .said ∷ s .strong ∷ (numberBytes (s .king)
     ++ (s .decision ∷ []))))
 
 abbrev pub listBytes : Numbers → List ℕ
-listBytes n = wordBytes (n .len) ++ wordsBytes (n .at)
+listBytes n = numberBytes (n .len) ++ numbersBytes (n .at)
 
 -- zeros from an offset on to the image's end
 unfoldable pub zerosFrom : ℕ → List ℕ
@@ -97,15 +98,12 @@ withLists s b = sets (sets (sets b heardAt (listBytes (s .heard))) candidatesAt 
 
 -- ---- from an image to the state in it
 
-abbrev pub noPlaces : List ℕ
-noPlaces = replicate maxNumbers 0
-
 -- the 64 places of a list
 unfoldable pub placesAt : List ℕ → ℕ → List ℕ
-placesAt b at = wordsAt b at maxNumbers
+placesAt b at = numbersAt b at maxNumbers
 
 abbrev pub listAt : List ℕ → ℕ → Numbers
-listAt b at = record { len = wordAt b at; at = placesAt b (at + countBytes) }
+listAt b at = record { len = numberAt b at; at = placesAt b (at + countBytes) }
 
 -- the 64 places of the record
 unfoldable pub roundsAt : List ℕ → List ℕ
@@ -114,12 +112,12 @@ roundsAt b = slice sinceAt reservedAt b
 abbrev pub takenApart : List ℕ → State
 takenApart b =
     record {
-      own = wordAt b ownAt;
-      round = wordAt b roundAt;
+      own = numberAt b ownAt;
+      round = numberAt b roundAt;
       bit = getD b ownBitAt 0;
       said = getD b saidAt 0;
       strong = getD b strongAt 0;
-      king = wordAt b kingAt;
+      king = numberAt b kingAt;
       decision = getD b decisionAt 0;
       heard = listAt b heardAt;
       candidates = listAt b candidatesAt;

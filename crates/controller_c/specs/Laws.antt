@@ -1,3 +1,4 @@
 -- Laws about the definitions.
+pub mod Words
 pub mod Image
 pub mod Calls

@@ -1,17 +1,18 @@
-// A state and its image: 1,024 bytes, laid out as docs/IMAGE.md has them. Of a list's places only the used ones are read and written one by one.
+// A state and its image: 1,024 bytes, laid out as docs/IMAGE.md has them. Of a list all 64 places are read and written, used or not: a loop of a fixed
+// count over words in the machine's order is a plain copy, which the compiler makes wide.
 ghost use mathlib.Core.Bool.{true};
 ghost use mathlib.Core.List.{[]};
 ghost use mathlib.Core.Path.{_≡_};
-ghost use Prim.Native.Nat.{_+_, _-_, _*_, _≤_};
-ghost use lib.ListN.{length, take, replicate};
-ghost use lib.Seq.{sets, slice};
+ghost use Prim.Native.Nat.{_+_, _*_, _≤_};
+ghost use lib.ListN.{length, drop};
+ghost use lib.Seq.{sets};
 ghost use Rattle.wire.specs.Lent.{before, after};
 ghost use Rattle.wire.specs.Limits.{maxNumbers, numberWidth};
-ghost use Rattle.wire.specs.Words.{wordsAt, wordsBytes};
 ghost use Rattle.controller.specs.Fields.{stateGiven, stateOf, stateBefore, wholeGiven, wholeOf, wholeBefore};
-ghost use Rattle.controller.specs.State.{sound, soundRules, soundList};
-ghost use Rattle.controller_c.specs.Image.{withLists, noPlaces, imageBytes, heardAt, sinceAt, reservedAt, listWidth, headBytes};
-ghost use Rattle.controller_c.specs.Image.{listBytes, laidOut, listAt, roundsAt, takenApart, zeros, shaped, soundImage};
+ghost use Rattle.controller.specs.State.{sound, soundRules};
+ghost use Rattle.controller_c.specs.Image.{withLists, imageBytes, heardAt, sinceAt, reservedAt, listWidth, headBytes, listBytes, zerosFrom};
+ghost use Rattle.controller_c.specs.Image.{laidOut, placesAt, listAt, roundsAt, takenApart, zeros, shaped, soundImage};
+ghost use Rattle.controller_c.specs.Words.{numbersBytes};
 use crate::layout::CANDIDATES_AT;
 use crate::layout::COUNT_BYTES;
 use crate::layout::DECISION_AT;
@@ -33,14 +34,14 @@ use controller::state::Fields;
 use wire::limits::MAX_NUMBERS;
 use wire::limits::NUMBER_WIDTH;
 
-// Whether the bytes from `from` to `to` are 0. They are joined by `|`, so that the loop has no way out to wait for.
-fn all_zero(image: &[u8], from: usize, to: usize) -> bool
-    requires { ⌜ (from ≤ to) × (to ≤ length (now image)) ⌝ }
-    ensures { λ r. ⌜ r ≡ zeros (slice from to (before image)) ⌝ }
+// Whether the reserved bytes are 0. They are joined by `|`, so that the loop has no way out to wait for.
+fn reserved_zero(image: &[u8]) -> bool
+    requires { ⌜ length (now image) ≡ imageBytes ⌝ }
+    ensures { λ r. ⌜ r ≡ zeros (drop reservedAt (before image)) ⌝ }
 {
     let mut all = 0;
-    let mut i = from;
-    while i < to {
+    let mut i = RESERVED_AT;
+    while i < IMAGE_BYTES {
         all = all | image[i];
         i += 1;
     }
@@ -49,37 +50,27 @@ fn all_zero(image: &[u8], from: usize, to: usize) -> bool
 
 // ---- from an image to the state in it
 
-// Reads the first `count` places of a list.
-fn take_places(image: &[u8], from: usize, count: usize, at: &mut [u32; MAX_NUMBERS])
-    requires { ⌜ (count ≤ maxNumbers) × (from + numberWidth * count ≤ length (now image)) ⌝ }
-    ensures { λ r. ⌜ after at ≡ sets (before at) 0 (wordsAt (before image) from count) ⌝ }
+// The places of a list.
+fn take_places(image: &[u8], from: usize) -> [u32; MAX_NUMBERS]
+    requires { ⌜ from + numberWidth * maxNumbers ≤ length (now image) ⌝ }
+    ensures { λ r. ⌜ r ≡ placesAt (before image) from ⌝ }
 {
+    let mut at = [0u32; MAX_NUMBERS];
     let mut i = 0;
-    while i < count {
+    while i < MAX_NUMBERS {
         at[i] = word(image, from + NUMBER_WIDTH * i);
         i += 1;
     }
+    at
 }
 
-// Reads a list into places that are 0, and returns its length. Where the unused places are 0, as they are in a sound image, only the others are read.
+// Reads a list's places, and returns its length.
 fn take_list(image: &[u8], from: usize, at: &mut [u32; MAX_NUMBERS]) -> usize
-    requires { ⌜ (from + listWidth ≤ length (now image)) × (now at ≡ noPlaces) ⌝ }
+    requires { ⌜ from + listWidth ≤ length (now image) ⌝ }
     ensures { λ r. ⌜ record { len = r; at = after at } ≡ listAt (before image) from ⌝ }
 {
-    let len = word(image, from) as usize;
-    let first = from + COUNT_BYTES;
-    if len <= MAX_NUMBERS {
-        if all_zero(
-            image,
-            first + NUMBER_WIDTH * len,
-            first + NUMBER_WIDTH * MAX_NUMBERS,
-        ) {
-            take_places(image, first, len, at);
-            return len;
-        }
-    }
-    take_places(image, first, MAX_NUMBERS, at);
-    len
+    *at = take_places(image, from + COUNT_BYTES);
+    word(image, from) as usize
 }
 
 // The record, a byte for each place.
@@ -96,14 +87,14 @@ pub(crate) fn take_rounds(image: &[u8]) -> [u8; MAX_NUMBERS]
     rounds
 }
 
-// Takes the state in an image apart, sound or not, into its fields and into places that are 0.
+// Takes the state in an image apart, sound or not, into its fields and its lists' places.
 pub(crate) fn take_apart(
     image: &[u8],
     heard: &mut [u32; MAX_NUMBERS],
     candidates: &mut [u32; MAX_NUMBERS],
     echoes: &mut [u32; MAX_NUMBERS],
 ) -> Fields
-    requires { ⌜ (length (now image) ≡ imageBytes) × (now heard ≡ noPlaces) × (now candidates ≡ noPlaces) × (now echoes ≡ noPlaces) ⌝ }
+    requires { ⌜ length (now image) ≡ imageBytes ⌝ }
     ensures { λ r. ⌜ wholeOf r (after heard) (after candidates) (after echoes) (roundsAt (before image)) ≡ takenApart (before image) ⌝ }
 {
     let heard_len = take_list(image, HEARD_AT, heard);
@@ -127,7 +118,7 @@ pub(crate) fn take_apart(
 pub(crate) fn is_shaped(image: &[u8]) -> bool
     ensures { λ r. ⌜ r ≡ shaped (before image) ⌝ }
 {
-    image.len() == IMAGE_BYTES && all_zero(image, RESERVED_AT, IMAGE_BYTES)
+    image.len() == IMAGE_BYTES && reserved_zero(image)
 }
 
 pub(crate) fn is_sound_image(image: &[u8]) -> bool
@@ -160,43 +151,23 @@ fn put_head(image: &mut [u8], fields: Fields)
     image[DECISION_AT] = fields.decision;
 }
 
-// Writes the first `len` places of a list.
-fn put_places(image: &mut [u8], from: usize, at: &[u32; MAX_NUMBERS], len: usize)
-    requires { ⌜ (len ≤ maxNumbers) × (length (now at) ≡ maxNumbers) × (from + numberWidth * len ≤ length (now image)) ⌝ }
-    ensures { λ r. ⌜ after image ≡ sets (before image) from (wordsBytes (take len (before at))) ⌝ }
+fn put_places(image: &mut [u8], from: usize, at: &[u32; MAX_NUMBERS])
+    requires { ⌜ (from + numberWidth * maxNumbers ≤ length (now image)) × (length (now at) ≡ maxNumbers) ⌝ }
+    ensures { λ r. ⌜ after image ≡ sets (before image) from (numbersBytes (before at)) ⌝ }
 {
     let mut i = 0;
-    while i < len {
+    while i < MAX_NUMBERS {
         put_word(image, from + NUMBER_WIDTH * i, at[i]);
         i += 1;
     }
 }
 
-// Sets the bytes from `from` to `to` to 0.
-fn clear(image: &mut [u8], from: usize, to: usize)
-    requires { ⌜ (from ≤ to) × (to ≤ length (now image)) ⌝ }
-    ensures { λ r. ⌜ after image ≡ sets (before image) from (replicate (to - from) 0) ⌝ }
-{
-    let mut i = from;
-    while i < to {
-        image[i] = 0;
-        i += 1;
-    }
-}
-
-// Writes a list in its stored form, whose unused places are 0.
 fn put_list(image: &mut [u8], from: usize, at: &[u32; MAX_NUMBERS], len: usize)
-    requires { ⌜ (from + listWidth ≤ length (now image)) × (soundList (record { len = len; at = now at }) ≡ true) ⌝ }
+    requires { ⌜ (from + listWidth ≤ length (now image)) × (len ≤ maxNumbers) × (length (now at) ≡ maxNumbers) ⌝ }
     ensures { λ r. ⌜ after image ≡ sets (before image) from (listBytes (record { len = len; at = before at })) ⌝ }
 {
-    let first = from + COUNT_BYTES;
     put_word(image, from, len as u32);
-    put_places(image, first, at, len);
-    clear(
-        image,
-        first + NUMBER_WIDTH * len,
-        first + NUMBER_WIDTH * MAX_NUMBERS,
-    );
+    put_places(image, from + COUNT_BYTES, at);
 }
 
 fn put_lists(
@@ -226,6 +197,17 @@ fn put_rounds(image: &mut [u8], since: &[u8; MAX_NUMBERS])
     }
 }
 
+fn clear_reserved(image: &mut [u8])
+    requires { ⌜ length (now image) ≡ imageBytes ⌝ }
+    ensures { λ r. ⌜ after image ≡ sets (before image) reservedAt (zerosFrom reservedAt) ⌝ }
+{
+    let mut i = RESERVED_AT;
+    while i < IMAGE_BYTES {
+        image[i] = 0;
+        i += 1;
+    }
+}
+
 // Every byte of the image, from a sound state in parts.
 pub(crate) fn lay_out(
     fields: Fields,
@@ -241,5 +223,5 @@ pub(crate) fn lay_out(
     put_head(image, fields);
     put_lists(image, fields, heard, candidates, echoes);
     put_rounds(image, since);
-    clear(image, RESERVED_AT, IMAGE_BYTES);
+    clear_reserved(image);
 }

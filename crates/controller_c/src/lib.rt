@@ -6,11 +6,11 @@ ghost use lib.ListN.{length, getD};
 ghost use Rattle.wire.specs.Numbers.{listed};
 ghost use Rattle.wire.specs.Frame.{readRefusal};
 ghost use Rattle.wire.specs.Lent.{before, after};
-ghost use Rattle.wire.specs.Words.{wordAt};
 ghost use Rattle.controller.specs.Fields.{answerOf};
 ghost use Rattle.controller.specs.State.{firstRounds};
 ghost use Rattle.controller_c.specs.Calls.{StartImagePromise, TrayImagePromise, fieldOf, HandsOver, HandedOver};
 ghost use Rattle.controller_c.specs.Image.{echoesAt, soundImage, takenApart};
+ghost use Rattle.controller_c.specs.Words.{numberAt};
 use crate::image::is_shaped;
 use crate::image::is_sound_image;
 use crate::image::lay_out;
@@ -160,7 +160,7 @@ pub extern "C" fn controller_decision(image: &[u8]) -> u8
 // The number in the four bytes at `at`; 0 for an image that is not sound.
 fn field(image: &[u8], at: usize) -> u32
     requires { ⌜ at ≤ echoesAt ⌝ }
-    ensures { λ r. ⌜ r ≡ fieldOf (before image) (wordAt (before image) at) ⌝ }
+    ensures { λ r. ⌜ r ≡ fieldOf (before image) (numberAt (before image) at) ⌝ }
 {
     if is_sound_image(image) {
         word(image, at)

@@ -8,7 +8,7 @@ use denote.Ref.{now}
 use lib.ListN.{getD}
 use Rattle.wire.specs.Limits.{maxNumbers, numberWidth}
 use Rattle.wire.specs.Numbers.{listed}
-use Rattle.wire.specs.Words.{wordAt}
+use Rattle.controller_c.specs.Words.{numberAt}
 use Rattle.controller.specs.Laws.Lists.{true-or-false}
 use Rattle.controller_c.specs.Calls.{fieldOf}
 use Rattle.controller_c.specs.Image.{heardAt, countBytes, listAt, soundImage}
@@ -18,7 +18,7 @@ use Rattle.controller_c.proofs.controller_heard_number.Tie as tie
 
 -- what stands at a place is the number there; past the places there is none
 read : (b : List ℕ) (i : ℕ) → i < maxNumbers
-    → fieldOf b (wordAt b (heardAt + countBytes + numberWidth * i)) ≡ fieldOf b (getD (listed (listAt b heardAt)) i 0)
+    → fieldOf b (numberAt b (heardAt + countBytes + numberWidth * i)) ≡ fieldOf b (getD (listed (listAt b heardAt)) i 0)
 read b i h = elim (true-or-false (soundImage b)) [ inl t ↦ rw t (number-read b t i h) | inr t ↦ rw t ]
 
 past : (b : List ℕ) (i : ℕ) → maxNumbers ≤ i → _≡_ {A = ℕ} 0 (fieldOf b (getD (listed (listAt b heardAt)) i 0))

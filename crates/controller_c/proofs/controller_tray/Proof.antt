@@ -4,7 +4,7 @@ use borrow.Author.Needs.{needs}
 use Prim.Native.Nat.{ℕ}
 use mathlib.Core.Bool.{true}
 use mathlib.Core.List.{List}
-use mathlib.Core.Path.{_≡_, refl, sym, ap, _∙_}
+use mathlib.Core.Path.{_≡_, sym, ap, _∙_}
 use denote.Ref.{now}
 use Rattle.controller.specs.Calls.{TrayPromise}
 use Rattle.controller.specs.Fields.{wholeOf}
@@ -56,7 +56,7 @@ take-rounds-requires : tie.Need-take-rounds-requires
 take-rounds-requires c κs = shaped-length _ (passed (c .before))
 
 take-apart-requires : tie.Need-take-apart-requires
-take-apart-requires c κs = (shaped-length _ (passed (fits (rounds c))), refl, refl, refl)
+take-apart-requires c κs = shaped-length _ (passed (fits (rounds c)))
 
 work-requires : tie.Need-work-requires
 work-requires c κs = search needs

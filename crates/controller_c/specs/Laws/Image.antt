@@ -1,25 +1,21 @@
 -- Laws of images: laying out and taking apart are inverse to each other on sound states.
---     places-split           a list's places, where the unused ones are 0
---     stored-bytes           the bytes of a sound list's places are those of the used ones, then zeros
 --     takenApart-laidOut     a sound state is what its image is taken apart to
 --     laidOut-takenApart     a sound image is what the state in it is laid out to
 --     laidOut-sound          the image of a sound state is sound
---     laidOut-bytes          and it is made of bytes, where the state's numbers are of 32 bits
 use Prim.Native.Nat.{ℕ, zero, suc, _+_, _*_, _-_, _≤_, _<_}
 use mathlib.Core.Bool.{true, and-eq-true-iff}
 use mathlib.Core.List.{List, [], _∷_, _++_, append-assoc}
 use mathlib.Core.Path.{_≡_, refl, sym, ap, _∙_}
-use native.Mathlib.Nat.{zero-add, add-zero, suc-add, add-assoc}
 use native.Mathlib.Omega.{arith}
 use borrow.Author.Tests.{eqb-true, eq-eqb}
 use lib.Dec.{eqb}
 use lib.ListN.{List·getD-eq-default}
 use lib.ListN.{length, getD, take, drop, replicate, length-append, length-drop, length-replicate, length-take, take-append-drop}
-use lib.Seq.{slice, take-all, take-at, drop-at, drop-append-le, length-take-le, getD-take, getD-drop}
+use lib.Seq.{slice, take-at, drop-at, drop-append-le, length-take-le, getD-take, getD-drop}
 use Rattle.wire.specs.Limits.{maxNumbers, numberWidth}
 use Rattle.wire.specs.Numbers.{listed}
-use Rattle.wire.specs.Words.{wordAt, wordBytes, wordsAt, wordsBytes, Below}
-use Rattle.wire.specs.Laws.Words.{word-back, words-at, words-behind, byte-drop, word-drop, words-drop}
+use Rattle.wire.specs.Words.{Below}
+use Rattle.wire.specs.Laws.Words.{byte-drop}
 use Rattle.wire.specs.declared.frame.Numbers.{Numbers}
 use Rattle.controller.specs.Fields.{wholeOf, stateOf}
 use Rattle.controller.specs.State.{firstRounds, soundList, soundRules, sound}
@@ -29,41 +25,32 @@ use Rattle.controller.specs.declared.state.Fields.{Fields}
 use Rattle.controller.specs.declared.state.State.{State}
 use Rattle.controller_c.specs.Image.{imageBytes, heardAt, candidatesAt, echoesAt, sinceAt, reservedAt, countBytes, listWidth, headBytes, listBytes}
 use Rattle.controller_c.specs.Image.{zerosFrom, laidOut, placesAt, listAt, roundsAt, takenApart, zeros, shaped, soundImage}
+use Rattle.controller_c.specs.Words.{numberAt, numbersAt}
+use Rattle.controller_c.specs.Laws.Words.{numbers-bytes-length, number-back, numbers-at, numbers-back, number-drop, numbers-drop}
 
 -- ---- lengths
-
-pub words-bytes-length : (l : List ℕ) → length (wordsBytes l) ≡ numberWidth * length l
-words-bytes-length [] = refl
-words-bytes-length (x ∷ l) = omega (arith, words-bytes-length l)
 
 -- a list of a sound state: what its count and its places are
 pub record Sized (n : Numbers) : Type 0 where
   pub few : n .len ≤ maxNumbers
   pub places : length (n .at) ≡ maxNumbers
 
-pub list-sized : (n : Numbers) → soundList n ≡ true → Sized n
+list-sized : (n : Numbers) → soundList n ≡ true → Sized n
 list-sized n h = let t = sound-list-gives n h in record { few = omega (arith, t .used, t .list .short); places = t .places }
 
 pub record SizedLists (s : State) : Type 0 where
   pub heard : Sized (s .heard)
   pub candidates : Sized (s .candidates)
   pub echoes : Sized (s .echoes)
-  pub since : length (s .since) ≡ maxNumbers
 
--- the lists of a sound state
-pub record SoundLists (s : State) : Type 0 where
-  pub heard : soundList (s .heard) ≡ true
-  pub candidates : soundList (s .candidates) ≡ true
-  pub echoes : soundList (s .echoes) ≡ true
-
-pub sound-lists : (s : State) → soundRules s ≡ true → SoundLists s
-sound-lists s h =
+pub rules-sized : (s : State) → soundRules s ≡ true → SizedLists s
+rules-sized s h =
     let g = rules-give s h in
-    let e = rules-stored s h in
+    let e = sym (rules-stored s h) in
     record {
-      heard = ap (λ (t : State). soundList (t .heard)) (sym e) ∙ sound-list-test (listed (s .heard)) (g .heard);
-      candidates = ap (λ (t : State). soundList (t .candidates)) (sym e) ∙ sound-list-test (listed (s .candidates)) (g .candidates);
-      echoes = ap (λ (t : State). soundList (t .echoes)) (sym e) ∙ sound-list-test (listed (s .echoes)) (g .echoes);
+      heard = list-sized (s .heard) (ap (λ (t : State). soundList (t .heard)) e ∙ sound-list-test (listed (s .heard)) (g .heard));
+      candidates = list-sized (s .candidates) (ap (λ (t : State). soundList (t .candidates)) e ∙ sound-list-test (listed (s .candidates)) (g .candidates));
+      echoes = list-sized (s .echoes) (ap (λ (t : State). soundList (t .echoes)) e ∙ sound-list-test (listed (s .echoes)) (g .echoes));
     }
 
 -- document 01's rules do not read the record
@@ -71,27 +58,17 @@ pub rules-alone : (f : Fields) (h c e p : List ℕ) → soundRules (wholeOf f h 
 unfolding soundRules
 rules-alone f h c e p t = t
 
-pub sound-sized : (s : State) → sound s ≡ true → SizedLists s
-sound-sized s h =
-    let l = sound-lists s (sound-rules s h) in
-    record {
-      heard = list-sized (s .heard) (l .heard);
-      candidates = list-sized (s .candidates) (l .candidates);
-      echoes = list-sized (s .echoes) (l .echoes);
-      since = since-places s h;
-    }
-
 pub list-bytes-length : (n : Numbers) → Sized n → length (listBytes n) ≡ listWidth
-list-bytes-length n z = let p = z .places in omega (arith, words-bytes-length (n .at))
+list-bytes-length n z = let p = z .places in omega (arith, numbers-bytes-length (n .at))
 
 zeros-from-length : (at : ℕ) → length (zerosFrom at) ≡ imageBytes - at
 unfolding zerosFrom
 zeros-from-length at = length-replicate (imageBytes - at) 0
 
-module _ (s : State) where
-  pub laid-out-length : SizedLists s → length (laidOut s) ≡ imageBytes
+module _ (s : State) (z : SizedLists s) (places : length (s .since) ≡ maxNumbers) where
+  pub laid-out-length : length (laidOut s) ≡ imageBytes
   unfolding laidOut
-  laid-out-length z =
+  laid-out-length =
       omega (
         arith,
         length-append (listBytes (s .heard)) (listBytes (s .candidates) ++ (listBytes (s .echoes) ++ (s .since ++ zerosFrom reservedAt))),
@@ -101,61 +78,10 @@ module _ (s : State) where
         list-bytes-length (s .heard) (z .heard),
         list-bytes-length (s .candidates) (z .candidates),
         list-bytes-length (s .echoes) (z .echoes),
-        z .since,
         zeros-from-length reservedAt,
       )
 
--- ---- a list's places, used and unused
-
-words-split : (b : List ℕ) (at m n : ℕ) → wordsAt b at (m + n) ≡ wordsAt b at m ++ wordsAt b (at + numberWidth * m) n
-words-split b at zero n = rw (zero-add, add-zero)
-words-split b at (suc m) n =
-    let e : at + numberWidth * suc m ≡ at + numberWidth + numberWidth * m = omega arith in
-    rw (suc-add, e, words-split b (at + numberWidth) m n)
-
-zeros-at : (l : List ℕ) → zeros l ≡ true → (i : ℕ) → getD l i 0 ≡ 0
-zeros-at [] h i = refl
-zeros-at (x ∷ l) h zero = eqb-true x 0 (and-eq-true-iff (eqb x 0) (zeros l) .0 h .0)
-zeros-at (x ∷ l) h (suc i) = zeros-at l (and-eq-true-iff (eqb x 0) (zeros l) .0 h .1) i
-
-zero-words : (b : List ℕ) (at n : ℕ) → ((i : ℕ) → i < numberWidth * n → getD b (at + i) 0 ≡ 0) → wordsAt b at n ≡ replicate n 0
-zero-words b at zero h = refl
-zero-words b at (suc n) h =
-    let first : getD b at 0 ≡ 0 = rw add-zero at (h 0 (omega arith)) in
-    let rest : (i : ℕ) → i < numberWidth * n → getD b (at + numberWidth + i) 0 ≡ 0 = λ i k. rw add-assoc (h (numberWidth + i) (omega arith)) in
-    rw (first, h 1 (omega arith), h 2 (omega arith), h 3 (omega arith), zero-words b (at + numberWidth) n rest)
-
-pub places-split : (b : List ℕ) (at n : ℕ) → n ≤ maxNumbers → zeros (slice (at + numberWidth * n) (at + numberWidth * maxNumbers) b) ≡ true
-    → placesAt b at ≡ wordsAt b at n ++ replicate (maxNumbers - n) 0
-unfolding placesAt
-places-split b at n h z =
-    let from = at + numberWidth * n in
-    let to = at + numberWidth * maxNumbers in
-    let sum : n + (maxNumbers - n) ≡ maxNumbers = omega arith in
-    let byte : (i : ℕ) → i < numberWidth * (maxNumbers - n) → getD b (from + i) 0 ≡ 0 =
-    λ i k. sym (getD-drop from (take to b) i 0 ∙ getD-take to b (from + i) 0 (omega arith)) ∙ zeros-at (slice from to b) z i in
-    ap (wordsAt b at) (sym sum) ∙ words-split b at n (maxNumbers - n) ∙ ap (λ (l : List ℕ). wordsAt b at n ++ l) (zero-words b from (maxNumbers - n) byte)
-
-words-bytes-append : (l m : List ℕ) → wordsBytes (l ++ m) ≡ wordsBytes l ++ wordsBytes m
-words-bytes-append [] m = refl
-words-bytes-append (x ∷ l) m = rw (words-bytes-append l m)
-
-words-bytes-zeros : (n : ℕ) → wordsBytes (replicate n 0) ≡ replicate (numberWidth * n) 0
-words-bytes-zeros zero = refl
-words-bytes-zeros (suc n) = let e : numberWidth * suc n ≡ suc (suc (suc (suc (numberWidth * n)))) = omega arith in rw (e, words-bytes-zeros n)
-
-pub stored-bytes : (n : Numbers) → soundList n ≡ true → wordsBytes (n .at) ≡ wordsBytes (listed n) ++ replicate (numberWidth * (maxNumbers - n .len)) 0
-stored-bytes n h =
-    let t = sound-list-gives n h in
-    ap (λ (m : Numbers). wordsBytes (m .at)) (sym (t .back))
-    ∙ words-bytes-append (listed n) (replicate (maxNumbers - length (listed n)) 0)
-    ∙ rw (t .used) (ap (λ (l : List ℕ). wordsBytes (listed n) ++ l) (words-bytes-zeros (maxNumbers - n .len)))
-
 -- ---- soundness
-
--- the bytes after the last field are the image's last ones
-pub reserved-last : (b : List ℕ) → length b ≡ imageBytes → slice reservedAt imageBytes b ≡ drop reservedAt b
-reserved-last b e = ap (drop reservedAt) (take-all imageBytes b (omega arith))
 
 shaped-gives : (b : List ℕ) → shaped b ≡ true → (length b ≡ imageBytes) × (zeros (drop reservedAt b) ≡ true)
 unfolding shaped
@@ -203,10 +129,10 @@ module _ (b : List ℕ) (h : soundImage b ≡ true) where
   heard-tests = sound-list-gives heard (rules-heard (takenApart b) (sound-rules (takenApart b) state-sound))
 
   -- the number at place i of heard, and the round beside it
-  pub number-read : (i : ℕ) → i < maxNumbers → wordAt b (heardAt + countBytes + numberWidth * i) ≡ getD (listed heard) i 0
+  pub number-read : (i : ℕ) → i < maxNumbers → numberAt b (heardAt + countBytes + numberWidth * i) ≡ getD (listed heard) i 0
   unfolding placesAt
   number-read i l =
-      sym (words-at b (heardAt + countBytes) maxNumbers i 0 l)
+      sym (numbers-at b (heardAt + countBytes) maxNumbers i l)
       ∙ ap (λ (n : Numbers). getD (n .at) i 0) (sym (heard-tests .back))
       ∙ padded-at (listed heard) (maxNumbers - length (listed heard)) i
 
@@ -214,7 +140,7 @@ module _ (b : List ℕ) (h : soundImage b ≡ true) where
   unfolding roundsAt
   round-read i l =
       sym (getD-drop sinceAt (take reservedAt b) i 0 ∙ getD-take reservedAt b (sinceAt + i) 0 (omega arith))
-      ∙ ap (λ (w : List ℕ). getD w i 0) (sym (beside-gives (wordAt b 0) (listed heard) (roundsAt b) (sound-beside (takenApart b) state-sound) .1))
+      ∙ ap (λ (w : List ℕ). getD w i 0) (sym (beside-gives (numberAt b 0) (listed heard) (roundsAt b) (sound-beside (takenApart b) state-sound) .1))
       ∙ padded-at rounds (maxNumbers - length rounds) i
 
   -- past the places there is none
@@ -226,24 +152,18 @@ module _ (b : List ℕ) (h : soundImage b ≡ true) where
 
 -- ---- laid out, then taken apart
 
--- numbers in front of other bytes
-words-front : (l r : List ℕ) → wordsAt (wordsBytes l ++ r) 0 (length l) ≡ l
-words-front [] r = refl
-words-front (x ∷ l) r = rw (word-back x, words-behind (wordBytes x) (wordsBytes l ++ r) 0 (length l), words-front l r)
-
 -- a list behind a prefix
 list-back : (p : List ℕ) (n : Numbers) (r : List ℕ) (k : ℕ) → length p ≡ k → Sized n → listAt (p ++ (listBytes n ++ r)) k ≡ n
 unfolding placesAt
 list-back p n r k e z =
     let b = p ++ (listBytes n ++ r) in
-    let whole : wordsAt b k (suc (length (n .at))) ≡ n .len ∷ n .at =
-    rw (← e, ← add-zero (length p)) (words-behind p (listBytes n ++ r) 0 (suc (length (n .at))) ∙ words-front (n .len ∷ n .at) r) in
-    let len : wordAt b k ≡ n .len = cc in
-    let at : wordsAt b (k + countBytes) (length (n .at)) ≡ n .at = cc in
-    let places : placesAt b (k + countBytes) ≡ n .at = ap (wordsAt b (k + countBytes)) (sym (z .places)) ∙ at in
+    let whole : numbersAt b k (suc (length (n .at))) ≡ n .len ∷ n .at = rw e at (numbers-back p (n .len ∷ n .at) r) in
+    let len : numberAt b k ≡ n .len = cc in
+    let at : numbersAt b (k + countBytes) (length (n .at)) ≡ n .at = cc in
+    let places : placesAt b (k + countBytes) ≡ n .at = ap (numbersAt b (k + countBytes)) (sym (z .places)) ∙ at in
     λ i. record { len = len i; at = places i }
 
-module _ (s : State) (z : SizedLists s) where
+module _ (s : State) (z : SizedLists s) (places : length (s .since) ≡ maxNumbers) where
   heard-back : listAt (laidOut s) heardAt ≡ s .heard
   unfolding laidOut
   heard-back = list-back (headBytes s) (s .heard) (listBytes (s .candidates) ++ (listBytes (s .echoes) ++ (s .since ++ zerosFrom reservedAt))) heardAt refl
@@ -289,7 +209,7 @@ module _ (s : State) (z : SizedLists s) where
       )
 
   used-length : length (front ++ s .since) ≡ reservedAt
-  used-length = omega (arith, length-append front (s .since), front-length, z .since)
+  used-length = omega (arith, length-append front (s .since), front-length)
 
   -- the record, with the bytes before it and those behind it
   around : (front ++ s .since) ++ zerosFrom reservedAt ≡ laidOut s
@@ -316,9 +236,9 @@ module _ (s : State) (z : SizedLists s) where
   fields-back : takenApart (laidOut s) ≡ s
   unfolding laidOut
   fields-back =
-      let own = word-back (s .own) in
-      let round = word-back (s .round) in
-      let king = word-back (s .king) in
+      let own = number-back (s .own) in
+      let round = number-back (s .round) in
+      let king = number-back (s .king) in
       let heard = heard-back in
       let candidates = candidates-back in
       let echoes = echoes-back in
@@ -339,7 +259,7 @@ module _ (s : State) (z : SizedLists s) where
       }
 
 pub takenApart-laidOut : (s : State) → sound s ≡ true → takenApart (laidOut s) ≡ s
-takenApart-laidOut s h = fields-back s (sound-sized s h)
+takenApart-laidOut s h = fields-back s (rules-sized s (sound-rules s h)) (since-places s h)
 
 -- ---- taken apart, then laid out
 
@@ -355,9 +275,9 @@ zeros-replicate : (n : ℕ) → zeros (replicate n 0) ≡ true
 zeros-replicate zero = refl
 zeros-replicate (suc n) = zeros-replicate n
 
-places-are : (b : List ℕ) (at n : ℕ) → n ≡ maxNumbers → placesAt b at ≡ wordsAt b at n
+places-are : (b : List ℕ) (at n : ℕ) → n ≡ maxNumbers → placesAt b at ≡ numbersAt b at n
 unfolding placesAt
-places-are b at n e = ap (wordsAt b at) (sym e)
+places-are b at n e = ap (numbersAt b at) (sym e)
 
 reserved-are : (b : List ℕ) → length b ≡ imageBytes → zeros (drop reservedAt b) ≡ true → zerosFrom reservedAt ≡ drop reservedAt b
 unfolding zerosFrom
@@ -369,19 +289,19 @@ module _ (b : List ℕ) (bytes : Below 256 b) where
   list-drop : (at n : ℕ) → n ≡ maxNumbers → at + listWidth ≤ length b → listBytes (listAt b at) ++ drop (at + listWidth) b ≡ drop at b
   list-drop at n e h =
       let size : at + numberWidth * suc n ≡ at + listWidth = omega arith in
-      rw (places-are b (at + countBytes) n e, ← size) (words-drop b bytes at (suc n) (omega arith))
+      rw (places-are b (at + countBytes) n e, ← size) (numbers-drop b bytes at (suc n) (omega arith))
 
   head-drop : heardAt ≤ length b → headBytes (takenApart b) ++ drop heardAt b ≡ b
   head-drop h =
       rw (
         ← byte-drop b 15 16 refl (omega arith),
-        word-drop b bytes 11 (omega arith),
+        number-drop b bytes 11 (omega arith),
         ← byte-drop b 10 11 refl (omega arith),
         ← byte-drop b 9 10 refl (omega arith),
         ← byte-drop b 8 9 refl (omega arith),
-        word-drop b bytes 4 (omega arith),
+        number-drop b bytes 4 (omega arith),
       )
-      (word-drop b bytes 0 (omega arith))
+      (number-drop b bytes 0 (omega arith))
 
   since-drop : reservedAt ≤ length b → roundsAt b ++ drop reservedAt b ≡ drop sinceAt b
   unfolding roundsAt
@@ -412,5 +332,6 @@ zeros-from at = zeros-replicate (imageBytes - at)
 pub laidOut-sound : (s : State) → sound s ≡ true → soundImage (laidOut s) ≡ true
 unfolding soundImage shaped
 laidOut-sound s h =
-    let z = sound-sized s h in
-    rw (eq-eqb (length (laidOut s)) imageBytes (laid-out-length s z), reserved-zero s z, zeros-from reservedAt, takenApart-laidOut s h) h
+    let z = rules-sized s (sound-rules s h) in
+    let p = since-places s h in
+    rw (eq-eqb (length (laidOut s)) imageBytes (laid-out-length s z p), reserved-zero s z p, zeros-from reservedAt, takenApart-laidOut s h) h

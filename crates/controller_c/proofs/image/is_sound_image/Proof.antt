@@ -1,6 +1,6 @@
 -- `controller_c::image::is_sound_image` meets its contract: the two tests are those of `soundImage`, in its order.
 use borrow.Author.Needs.{needs}
-use mathlib.Core.Path.{_≡_, refl, sym, ap, _∙_}
+use mathlib.Core.Path.{_≡_, sym, ap, _∙_}
 use denote.Ref.{now}
 use lib.ListN.{length}
 use Rattle.controller.specs.State.{sound}
@@ -23,7 +23,7 @@ whole : (c : tie.Then1) → length (now (c .before .before .before .args .image)
 whole c = shaped-length _ (sym (c .before .is-shaped .ensures) ∙ c .if1 .taken)
 
 take-apart-requires : tie.Need-take-apart-requires
-take-apart-requires c κs = (whole (fits c), refl, refl, refl)
+take-apart-requires c κs = whole (fits c)
 
 take-rounds-requires : tie.Need-take-rounds-requires
 take-rounds-requires c κs = whole (fits (c .before))

@@ -7,25 +7,25 @@ use denote.Ref.{now}
 use native.Mathlib.Omega.{arith}
 use lib.ListN.{length}
 use lib.Seq.{sets}
+use Rattle.wire.specs.Limits.{maxNumbers}
 use Rattle.controller.specs.Fields.{wholeOf}
 use Rattle.controller.specs.Laws.State.{sound-rules, since-places}
 use Rattle.controller.specs.declared.state.State.{State}
 use Rattle.controller_c.specs.Image.{imageBytes, heardAt, candidatesAt, echoesAt, sinceAt, reservedAt, headBytes, listBytes, withLists, zerosFrom, laidOut}
-use Rattle.controller_c.specs.Laws.Image.{SizedLists, sound-sized, rules-alone, list-bytes-length, laid-out-length}
+use Rattle.controller_c.specs.Laws.Image.{SizedLists, rules-sized, rules-alone, list-bytes-length, laid-out-length}
 use Rattle.controller_c.proofs.Stores.{join-at, sets-whole}
 use Rattle.controller_c.proofs.image.lay_out.Statement.{statement}
 use Rattle.controller_c.proofs.image.lay_out.Tie as tie
 
-laid : (s : State) (b : List ℕ) → SizedLists s → length b ≡ imageBytes
+laid : (s : State) (b : List ℕ) → SizedLists s → length (s .since) ≡ maxNumbers → length b ≡ imageBytes
     → let two = sets (sets b 0 (headBytes s)) heardAt (listBytes (s .heard)) in
     let four = sets (sets two candidatesAt (listBytes (s .candidates))) echoesAt (listBytes (s .echoes)) in
     sets (sets four sinceAt (s .since)) reservedAt (zerosFrom reservedAt) ≡ laidOut s
 unfolding laidOut
-laid s b z n =
+laid s b z since n =
     let heard = list-bytes-length (s .heard) (z .heard) in
     let candidates = list-bytes-length (s .candidates) (z .candidates) in
     let echoes = list-bytes-length (s .echoes) (z .echoes) in
-    let since = z .since in
     let third = s .since ++ zerosFrom reservedAt in
     let second = listBytes (s .echoes) ++ third in
     let first = listBytes (s .candidates) ++ second in
@@ -37,7 +37,7 @@ laid s b z n =
     ∙ join-at two candidatesAt echoesAt (listBytes (s .candidates)) second (omega arith)
     ∙ join-at one heardAt candidatesAt (listBytes (s .heard)) first (omega arith)
     ∙ join-at b 0 heardAt (headBytes s) (listBytes (s .heard) ++ first) (omega arith)
-    ∙ sets-whole b (laidOut s) (laid-out-length s z ∙ sym n)
+    ∙ sets-whole b (laidOut s) (laid-out-length s z since ∙ sym n)
 
 -- what was given; the head is stored, then the lists, then the record
 abbrev given : tie.After-put-head → tie.Start
@@ -49,7 +49,7 @@ headed c = c .before .before .before
 abbrev listed : tie.After-put-rounds-arg → tie.After-put-lists
 listed c = c .before .before .before
 
-abbrev recorded : tie.After-clear-arg → tie.After-put-rounds
+abbrev recorded : tie.After-clear-reserved-arg → tie.After-put-rounds
 recorded c = c .before .before .before
 
 -- the state that is lent in parts
@@ -67,14 +67,13 @@ put-lists-requires c κs = let start = given (headed c) in (rules-alone _ _ _ _ 
 put-rounds-requires : tie.Need-put-rounds-requires
 put-rounds-requires c κs = let start = given (headed (listed c .before)) in (since-places (state start) (start .pre .0), search needs)
 
-clear-requires : tie.Need-clear-requires
-clear-requires c κs = search needs
+clear-reserved-requires : tie.Need-clear-reserved-requires
+clear-reserved-requires c κs = search needs
 
 same-length : tie.Need-same-length
 same-length c = search needs
 
 returns : tie.Need-returns
-unfolding zerosFrom
 returns c =
     let cleared = c .before .before in
     let rounds = recorded (cleared .before) in
@@ -84,10 +83,10 @@ returns c =
     let s = state start in
     let with-lists = lists .put-lists .ensures ∙ ap (withLists s) (head .put-head .ensures) in
     let with-rounds = rounds .put-rounds .ensures ∙ ap (λ (l : List ℕ). sets l sinceAt (s .since)) with-lists in
-    cleared .clear .ensures
+    cleared .clear-reserved .ensures
     ∙ ap (λ (l : List ℕ). sets l reservedAt (zerosFrom reservedAt)) with-rounds
-    ∙ laid s (now (start .args .image)) (sound-sized s (start .pre .0)) (start .pre .1)
+    ∙ laid s (now (start .args .image)) (rules-sized s (sound-rules s (start .pre .0))) (since-places s (start .pre .0)) (start .pre .1)
 
 pub lay-out-spec : {M : Type 1} → statement M
 lay-out-spec =
-    tie.close (tie.spec put-head-requires put-lists-requires put-rounds-requires clear-requires same-length returns)
+    tie.close (tie.spec put-head-requires put-lists-requires put-rounds-requires clear-reserved-requires same-length returns)

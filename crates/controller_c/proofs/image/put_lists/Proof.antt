@@ -1,9 +1,9 @@
--- `controller_c::image::put_lists` meets its contract: each list of a sound state is sound.
+-- `controller_c::image::put_lists` meets its contract: each list of a sound state has its 64 places, and a count that fits.
 use borrow.Author.Needs.{needs}
 use denote.Ref.{now}
 use Rattle.controller.specs.Fields.{stateOf}
 use Rattle.controller.specs.declared.state.State.{State}
-use Rattle.controller_c.specs.Laws.Image.{SoundLists, sound-lists}
+use Rattle.controller_c.specs.Laws.Image.{SizedLists, rules-sized}
 use Rattle.controller_c.proofs.image.put_lists.Statement.{statement}
 use Rattle.controller_c.proofs.image.put_lists.Tie as tie
 
@@ -21,17 +21,17 @@ second c = c .before .before .before
 abbrev state : tie.Start → State
 state c = stateOf (c .args .fields) (now (c .args .heard)) (now (c .args .candidates)) (now (c .args .echoes))
 
-lists : (c : tie.Start) → SoundLists (state c)
-lists c = sound-lists (state c) (c .pre .0)
+lists : (c : tie.Start) → SizedLists (state c)
+lists c = rules-sized (state c) (c .pre .0)
 
 put-list-requires : tie.Need-put-list-requires
-put-list-requires c κs = (search needs, lists (c .before .before) .heard)
+put-list-requires c κs = let z = lists (c .before .before) .heard in (search needs, z .few, z .places)
 
 put-list-requires-2 : tie.Need-put-list-requires-2
-put-list-requires-2 c κs = (search needs, lists (given (first c)) .candidates)
+put-list-requires-2 c κs = let z = lists (given (first c)) .candidates in (search needs, z .few, z .places)
 
 put-list-requires-3 : tie.Need-put-list-requires-3
-put-list-requires-3 c κs = (search needs, lists (given (first (second c .before))) .echoes)
+put-list-requires-3 c κs = let z = lists (given (first (second c .before))) .echoes in (search needs, z .few, z .places)
 
 same-length : tie.Need-same-length
 same-length c = search needs
