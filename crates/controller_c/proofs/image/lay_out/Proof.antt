@@ -11,7 +11,8 @@ use Rattle.wire.specs.Limits.{maxNumbers}
 use Rattle.controller.specs.Fields.{wholeOf}
 use Rattle.controller.specs.Laws.State.{sound-rules, since-places}
 use Rattle.controller.specs.declared.state.State.{State}
-use Rattle.controller_c.specs.Image.{imageBytes, heardAt, candidatesAt, echoesAt, sinceAt, reservedAt, headBytes, listBytes, withLists, zerosFrom, laidOut}
+use Rattle.controller_c.specs.Image.{imageBytes, heardAt, candidatesAt, echoesAt, sinceAt, reservedAt}
+use Rattle.controller_c.specs.Image.{headBytes, listBytes, withLists, zerosFrom, laidOut}
 use Rattle.controller_c.specs.Laws.Image.{SizedLists, rules-sized, rules-alone, list-bytes-length, laid-out-length}
 use Rattle.controller_c.proofs.Stores.{join-at, sets-whole}
 use Rattle.controller_c.proofs.image.lay_out.Statement.{statement}
