@@ -5,6 +5,7 @@ pub mod First
 pub mod Heads
 pub mod Lists
 pub mod Opened
+pub mod Own
 pub mod Received
 pub mod Sound
 pub mod Step

@@ -5,6 +5,7 @@ mod first;
 mod heads;
 mod lists;
 mod opened;
+mod own;
 mod received;
 mod rotation;
 pub mod sound;

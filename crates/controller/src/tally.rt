@@ -1,16 +1,13 @@
 // The tally of the received lists, and what it makes of echoes and candidates. The lists rise, so one walk goes along all of them together, least number
 // first. It passes each place of a list once, and a number is settled as soon as it is passed.
-ghost use mathlib.Core.Bool.{false, cond};
+ghost use mathlib.Core.Bool.{false};
 ghost use mathlib.Core.List.{[]};
 ghost use mathlib.Core.Path.{_≡_};
-ghost use Prim.Native.Nat.{_*_, _≤_};
-ghost use lib.Dec.{ltb};
 ghost use Rattle.wire.specs.Lent.{before, after};
-ghost use Rattle.wire.specs.Limits.{maxNumbers};
 ghost use Rattle.wire.specs.Numbers.{stored};
 ghost use Rattle.controller.specs.Fields.{stateBefore, stateGiven};
 ghost use Rattle.controller.specs.Work.Received.{Ready};
-ghost use Rattle.controller.specs.Work.Tally.{GrowsLists, Settleable, Walkable, Tallies, SettlesNext, SortsAll};
+ghost use Rattle.controller.specs.Work.Tally.{GrowsLists, Settleable, Walkable, OneList, Tallies, SettlesNext, SortsAll, SortsOne};
 ghost use Rattle.controller.specs.Work.Heads.{Roomy};
 use crate::heads::SLOTS;
 use crate::heads::line_up;
@@ -21,6 +18,8 @@ use crate::lists::place_from;
 use crate::opened::END;
 use crate::opened::MAX_LISTS;
 use crate::opened::open_lists;
+use crate::own::count_own;
+use crate::received::sent_count;
 use crate::state::Fields;
 use wire::limits::MAX_NUMBERS;
 
@@ -169,17 +168,39 @@ fn walk(
     )
 }
 
-// How many of the `len` open lists are gone along: only the own one, where more than two thirds of `h` sent it. Its numbers have reached two thirds then, and
-// no other number can reach a third.
-fn telling(len: usize, equal: usize, h: usize) -> usize
-    requires { ⌜ (equal ≤ maxNumbers) × (h ≤ maxNumbers) ⌝ }
-    ensures { λ r. ⌜ r ≡ cond (ltb (2 * h) (3 * equal)) 1 len ⌝ }
+// Settles each of the `len` numbers of the own list, which `count` of `h` sent, from the `known` candidates that were, and no echoes.
+fn settle_own(
+    own: &[u32],
+    len: usize,
+    count: usize,
+    h: usize,
+    known: usize,
+    echoed: &mut [u32; MAX_NUMBERS],
+    candidates: &mut [u32; MAX_NUMBERS],
+) -> Settled
+    requires { ⌜ OneList own len count h known echoed candidates ⌝ }
+    ensures { λ r. ⌜ SortsOne own len count h known echoed candidates r ⌝ }
 {
-    if 2 * h < 3 * equal { 1 } else { len }
+    let mut settled = Settled {
+        echoed: 0,
+        candidates: known,
+        place: 0,
+        fits: true,
+    };
+    let mut i = 0;
+    while i < len {
+        settled = settle(settled, own[i], count, h, echoed, candidates);
+        i += 1;
+        if settled.fits {
+            continue;
+        }
+        return settled;
+    }
+    settled
 }
 
 // Opens the received lists and goes along them. `own` are the echoes that were, `echoed` those that come, none at first; `candidates` grow.
-fn tally(
+fn tally_all(
     fields: Fields,
     heard: &[u32; MAX_NUMBERS],
     own: &[u32],
@@ -203,19 +224,42 @@ fn tally(
         &mut counts,
         &mut sent,
     );
-    let used = telling(len, sent[0], fields.heard);
     walk(
         own,
         tray,
         &starts,
         &counts,
         &sent,
-        used,
+        len,
         fields.heard,
         fields.candidates,
         echoed,
         candidates,
     )
+}
+
+// The same. Where more than two thirds sent the own list, the others change nothing: its numbers have reached two thirds without them, and no other number
+// can reach a third.
+fn tally(
+    fields: Fields,
+    heard: &[u32; MAX_NUMBERS],
+    own: &[u32],
+    tray: &[u8],
+    notes: &[u32; MAX_NUMBERS],
+    echoed: &mut [u32; MAX_NUMBERS],
+    candidates: &mut [u32; MAX_NUMBERS],
+) -> Settled
+    requires { ⌜ Ready (stateGiven fields heard candidates own) (now tray) (now notes) × (now echoed ≡ (stored []) .at) ⌝ }
+    ensures { λ r. ⌜ Tallies (stateBefore fields heard candidates own) (before tray) (after echoed) (after candidates) r ⌝ }
+{
+    let h = fields.heard;
+    let equal = count_own(fields, own, tray, notes);
+    if 2 * h < 3 * equal {
+        let len = sent_count(fields);
+        settle_own(own, len, equal, h, fields.candidates, echoed, candidates)
+    } else {
+        tally_all(fields, heard, own, tray, notes, echoed, candidates)
+    }
 }
 
 fn no_room() -> Lists

@@ -47,7 +47,7 @@ fn same_span(a: &[u8], b: &[u8], from: usize, n: usize) -> bool
 }
 
 // Whether two parts have the same bytes. It goes from the end to the front: lists that differ mostly differ in their last numbers.
-fn same_bytes(a: &[u8], b: &[u8]) -> bool
+pub fn same_bytes(a: &[u8], b: &[u8]) -> bool
     ensures { λ r. ⌜ r ≡ sameBytes (before a) (before b) ⌝ }
 {
     let mut end = a.len();

@@ -143,6 +143,10 @@ module _ (v : View) (h : Sound v) (u : undecided v ≡ true) where
   unfolding frameOf
   frame-writable = saying-writable v (v .bit .said) h (h .said u)
 
+  pub stand-in-writable : writable (standIn v) ≡ true
+  unfolding standIn
+  stand-in-writable = saying-writable v (silentBit v) h silent-fits
+
   pub own-frame-reads : content (frameBytes (frameOf v)) (v .round) ≡ some (frameOf v)
   unfolding frameOf
   own-frame-reads = reads-written (frameOf v) frame-writable
@@ -193,9 +197,8 @@ received-any P v es x own silence read c = pick (eqb x (v .own)) (silent v es x)
 
 pub received-allowed : (v : View) (es : List Entry) → Sound v → undecided v ≡ true → (x : ℕ) (c : Content) → (receive v es) .from x ≡ some c
     → writable c ≡ true
-unfolding standIn
 received-allowed v es h u x =
-    received-any (λ c. writable c ≡ true) v es x (frame-writable v h u) (saying-writable v (silentBit v) h (silent-fits v h u))
+    received-any (λ c. writable c ≡ true) v es x (frame-writable v h u) (stand-in-writable v h u)
     (read-allowed (v .round) (under x es))
 
 list-positive : (o : Option Content) → ((c : Content) → o ≡ some c → writable c ≡ true) → (y : ℕ) → In y (listIn o) → 0 < y

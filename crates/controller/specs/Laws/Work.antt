@@ -5,9 +5,9 @@ pub mod Grow
 pub mod Heads
 pub mod Hears
 pub mod Lists
-pub mod Majority
 pub mod Moved
 pub mod Opened
+pub mod Own
 pub mod Ready
 pub mod Settle
 pub mod Sound

@@ -16,7 +16,7 @@
 --     Places w b l m .. r        the list l is the open one at place r, or it is opened there, behind the m open ones; PlacesIn, the same of lent lists and
 --                                the list received with a note
 --     Openable f e b t s n c     what opening finds: a state that is ready for the tray b, and room
---     OpensAll f e b t s n c m   the m open lists count each number as the lists received with the notes do, and are as many as those heard
+--     OpensAll f e b t s n c m   the m open lists count each number as the lists received with the notes do
 use Prim.Native.Nat.{ℕ, zero, suc, _+_, _*_, _<_, _≤_}
 use mathlib.Core.Bool.{cond}
 use mathlib.Core.List.{List}
@@ -139,5 +139,4 @@ pub record Openable (f : Fields) (e b t s n w : List ℕ) : Type 0 where
 
 pub record OpensAll (f : Fields) (e b t s n w : List ℕ) (m : ℕ) : Type 0 where
   pub opens : Opens e b s n w m
-  pub all : total (λ (j : ℕ). getD w j 0) m ≡ f .heard
   pub counted : (x : ℕ) → weighed e b s n w m x ≡ having (notedList f e b t) (f .heard) x

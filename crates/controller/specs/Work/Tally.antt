@@ -7,12 +7,13 @@
 --     SettlesOn v h c x e k r    the numbers up to x are settled, or there are too many
 --     Settleable r x n h e k     what settling x, which is in n of h lists, finds
 --     Walkable w b s n c m ..    what the walk finds: m open lists, no echoes yet, and the candidates that were
+--     OneList w n m h ..         what settling the first n numbers of w, which m of h sent, finds: the same, and that they rise
 --     Sorts v h c e k r          all numbers are settled, or there are too many
---     SettlesNext, SortsAll      the same of lent lists
+--     SettlesNext, SortsAll, SortsOne      the same of lent lists
 --     Tallies s b e k r          so it is with the numbers that the state s receives with the tray b
 --     GrowsLists s b r c e       so it is with the echoes and candidates that making round 3 + 3r gives, where c and e are the places after it
 use Prim.Native.Nat.{ℕ, _+_, _<_, _≤_}
-use mathlib.Core.Bool.{true, false, _&&_}
+use mathlib.Core.Bool.{true, false, cond, _&&_}
 use mathlib.Core.List.{List, []}
 use mathlib.Core.Path.{_≡_}
 use mathlib.Core.Logic.{_⊎_, _↔_}
@@ -23,7 +24,7 @@ use Rattle.wire.specs.Lent.{before, after}
 use Rattle.wire.specs.Limits.{maxNumbers}
 use Rattle.wire.specs.Numbers.{stored, listed}
 use Rattle.controller.specs.Fields.{Given, Lent}
-use Rattle.controller.specs.Lists.{In, Rising}
+use Rattle.controller.specs.Lists.{In, mem, Rising}
 use Rattle.controller.specs.State.{view, soundList}
 use Rattle.controller.specs.Thirds.{third, twoThirds}
 use Rattle.controller.specs.Received.{lists}
@@ -80,6 +81,16 @@ pub record Walkable (own b starts counts sent : Given) (m h known : ℕ) (e k : 
   pub empty : now e ≡ (stored []) .at
   pub candidates : soundList (inPlaces known (now k)) ≡ true
 
+pub record OneList (own : Given) (n m h known : ℕ) (e k : Given) : Type 0 where
+  pub inside : n ≤ length (now own)
+  pub rises : Rising (take n (now own))
+  pub positive : (y : ℕ) → In y (take n (now own)) → 0 < y
+  pub few : m ≤ maxNumbers
+  pub most : h ≤ maxNumbers
+  pub some : 0 < h
+  pub empty : now e ≡ (stored []) .at
+  pub candidates : soundList (inPlaces known (now k)) ≡ true
+
 pub record Sorts (v : ℕ → ℕ) (h : ℕ) (c e k : List ℕ) (r : Settled) : Type 0 where
   pub echoes : r .fits ≡ true → HasJust (Echoed v h c) (inPlaces (r .echoed) e)
   pub candidates : r .fits ≡ true → HasJust (Candidate v h c) (inPlaces (r .candidates) k)
@@ -94,6 +105,10 @@ SettlesNext s x count h e k r =
 abbrev pub SortsAll : Lent → Lent → Lent → Lent → Lent → ℕ → ℕ → ℕ → Lent → Lent → Settled → Type 0
 SortsAll own b starts counts sent m h known e k r =
     Sorts (weighed (before own) (before b) (before starts) (before counts) (before sent) m) h (take known (before k)) (after e) (after k) r
+
+-- those of the first n places of one list that m sent are settled
+abbrev pub SortsOne : Lent → ℕ → ℕ → ℕ → ℕ → Lent → Lent → Settled → Type 0
+SortsOne own n m h known e k r = Sorts (λ y. cond (mem y (take n (before own))) m 0) h (take known (before k)) (after e) (after k) r
 
 abbrev pub Tallies : State → List ℕ → List ℕ → List ℕ → Settled → Type 0
 Tallies s b e k r = Sorts (tally (lists (receivedBy s b))) (length ((receivedBy s b) .heard)) (listed (s .candidates)) e k r

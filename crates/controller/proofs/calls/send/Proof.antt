@@ -1,49 +1,33 @@
 -- `controller::calls::send` meets its contract: a decided state sends nothing; else the frame that is written is the state's own, which the writer allows
 -- since the state is sound.
-use Prim.Native.Nat.{ℕ, _-_, _≤_}
+use Prim.Native.Nat.{ℕ, _≤_}
 use mathlib.Core.Bool.{Bool, true, false, cond}
-use mathlib.Core.List.{List, []}
-use mathlib.Core.Path.{_≡_, refl, ap, _∙_}
-use native.Mathlib.Nat.{sub-zero}
+use mathlib.Core.List.{List}
+use mathlib.Core.Path.{_≡_, _∙_}
 use native.Mathlib.Omega.{arith}
 use borrow.Author.Needs.{needs}
 use borrow.Author.Tests.{le-leb, eq-eqb, ne-eqb}
 use denote.Ref.{now}
 use lib.Dec.{ltb}
-use lib.ListN.{length, take, drop}
+use lib.ListN.{length}
 use Rattle.controller.specs.Fields.{stateOf}
 use Rattle.controller.specs.Laws.Received.{frame-writable}
 use Rattle.controller.specs.Laws.State.{rules-give}
-use Rattle.controller.specs.Received.{frameOf}
+use Rattle.controller.specs.Received.{frameSaying, frameOf}
 use Rattle.controller.specs.State.{view, undecided, soundRules}
 use Rattle.controller.specs.Work.Calls.{Sends}
 use Rattle.controller.specs.declared.state.State.{State}
-use Rattle.wire.specs.Frame.{Content, kindOf, saidBy, maxCount, writeRefusal, FrameWrites}
+use Rattle.wire.specs.Frame.{maxCount, writeRefusal, FrameWrites}
 use Rattle.wire.specs.Limits.{maxFrame}
-use Rattle.wire.specs.Numbers.{listed}
-use Rattle.wire.specs.declared.frame.Said.{Said}
 use Rattle.wire.specs.declared.frame.Written.{Written}
+use Rattle.controller.proofs.Sent.{content-is}
 use Rattle.controller.proofs.calls.send.Statement.{statement}
 use Rattle.controller.proofs.calls.send.Tie as tie
 
 module _ (s : State) where
-  -- what is handed to the writer is the state's own frame
-  content-is : (k n : ℕ) (a : Said) → k ≡ kindOf (s .round) → n ≡ cond (ltb 0 (maxCount (kindOf (s .round)))) (s .echoes .len) 0 → a ≡ saidBy k (s .said)
-      → _≡_ {A = Content} (record { round = s .round; said = a; numbers = take (n - 0) (drop 0 (s .echoes .at)) }) (frameOf (view s))
-  unfolding frameOf
-  content-is k n a kind count said =
-      let numbers : take (n - 0) (drop 0 (s .echoes .at)) ≡ cond (ltb 0 (maxCount (kindOf (s .round)))) (listed (s .echoes)) [] =
-      rw (sub-zero n, count) (pick (ltb 0 (maxCount (kindOf (s .round))))) in
-      let says : a ≡ saidBy (kindOf (s .round)) (s .said) = said ∙ ap (λ (j : ℕ). saidBy j (s .said)) kind in
-      λ i. record { round = s .round; said = says i; numbers = numbers i }
-    where
-      pick : (t : Bool) → take (cond t (s .echoes .len) 0) (s .echoes .at) ≡ cond t (listed (s .echoes)) []
-      pick true = refl
-      pick false = refl
-
   writes : soundRules s ≡ true → undecided (view s) ≡ true → (b : List ℕ) → maxFrame ≤ length b → (w : Written) (a : List ℕ)
-      → FrameWrites (frameOf (view s)) b w a → Sends (view s) b (w .length) a
-  unfolding writeRefusal
+      → FrameWrites (frameSaying (view s) (s .said)) b w a → Sends (view s) b (w .length) a
+  unfolding writeRefusal frameOf
   writes h active b room w a f =
       let allowed = frame-writable (view s) (rules-give s h) active in
       let roomy = le-leb maxFrame (length b) room in
@@ -108,7 +92,7 @@ returns-2 c h d sound =
     let counted = asked (written c) in
     let start = given counted in
     let s = stateOf (start .args .fields) h d (now (start .args .echoes)) in
-    let content = content-is s _ _ _ (counted .before .before .kind-of .ensures) (counted .sent-count .ensures) (counted .before .said-by .ensures) in
+    let content = content-is s _ _ _ _ (counted .before .before .kind-of .ensures) (counted .sent-count .ensures) (counted .before .said-by .ensures) in
     writes s sound (eq-eqb _ _ (active counted .if1 .left)) (now (start .args .out)) (start .pre .0) (written c .write-frame .result) _
     (rw content at (written c .write-frame .ensures))
 

@@ -128,7 +128,6 @@ returns c =
     let all : v .j ≡ a .fields .heard = omega (arith, v .inv .0, c .if1 .left) in
     record {
       opens = v .inv .1 .opens;
-      all = v .inv .1 .weight ∙ all;
       counted = λ x. v .inv .1 .counts x ∙ ap (λ (h : ℕ). having (notedList (a .fields) (now (a .own)) (now (a .tray)) (now (a .notes))) h x) all;
     }
 

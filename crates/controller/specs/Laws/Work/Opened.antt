@@ -59,6 +59,17 @@ module _ {f : Fields} {h c e b t : List ℕ} (ready : Ready (stateOf f h c e) b 
       pick true = refl
       pick false = refl
 
+  -- the places of the echoes, and the list that is sent
+  pub own-places : length e ≡ maxNumbers
+  own-places = echoes-sized (stateOf f h c e) (ready .sound) .1
+
+  pub own-sound : (sentCount f ≤ maxNumbers) × SoundList (take (sentCount f) e)
+  own-sound = pick (ltb 0 (maxCount (kindOf (f .round))))
+    where
+      pick : (a : Bool) → (cond a (f .echoes) 0 ≤ maxNumbers) × SoundList (take (cond a (f .echoes) 0) e)
+      pick true = (echoes-sized (stateOf f h c e) (ready .sound) .0, rules-give (stateOf f h c e) (ready .sound) .echoes)
+      pick false = (omega arith, record { short = omega arith; rises = tt; positive = λ y i. absurd (List·Memᴰ·not-nil i) })
+
   under-is : (j : ℕ) → j < f .heard → notedList f e b t j ≡ nthList (lists (receivedBy (stateOf f h c e) b)) j
   under-is j l = ap (λ (m : List ℕ). listUnder (f .round) m b (getD t j 0)) (sym own-list) ∙ ready-list ready j l
 
@@ -242,23 +253,11 @@ pub record Opening (f : Fields) (own b t s n w : List ℕ) (m last slot j : ℕ)
 
 -- the own list of a state that is ready is all that is open at first
 module _ {f : Fields} {e b t s n w : List ℕ} (o : Openable f e b t s n w) where
-  state : State
-  state = stateOf f (o .heard) (o .candidates) e
-
-  sent-list : (sentCount f ≤ maxNumbers) × SoundList (take (sentCount f) e)
-  unfolding state
-  sent-list = pick (ltb 0 (maxCount (kindOf (f .round))))
-    where
-      pick : (a : Bool) → (cond a (f .echoes) 0 ≤ maxNumbers) × SoundList (take (cond a (f .echoes) 0) e)
-      pick true = (echoes-sized state (o .ready .sound) .0, rules-give state (o .ready .sound) .echoes)
-      pick false = (omega arith, record { short = omega arith; rises = tt; positive = λ y i. absurd (List·Memᴰ·not-nil i) })
-
   pub sent-few : sentCount f ≤ maxNumbers
-  sent-few = sent-list .0
+  sent-few = own-sound (o .ready) .0
 
   pub own-sized : length e ≡ maxNumbers
-  unfolding state
-  own-sized = echoes-sized state (o .ready .sound) .1
+  own-sized = own-places (o .ready)
 
   pub opening-start : (r : ℕ) → r ≡ sentCount f → Below endMark e → Opening f e b t s (set n 0 r) w 1 noFrame 0 0
   opening-start r sent small =
@@ -282,12 +281,12 @@ module _ {f : Fields} {e b t s n w : List ℕ} (o : Openable f e b t s n w) wher
                     mine = λ q. omega (arith, count, sent, sent-few, own-sized);
                     inside = λ l. absurd (omega arith);
                   });
-              rises = one (λ j. Rising (openList e b s (set n 0 r) j)) (subst Rising (sym list) (sent-list .1 .rises));
+              rises = one (λ j. Rising (openList e b s (set n 0 r) j)) (subst Rising (sym list) (own-sound (o .ready) .1 .rises));
               fit =
                   one (λ j. (y : ℕ) → In y (openList e b s (set n 0 r) j) → (0 < y) × (y < endMark))
                   (λ y i.
                   let k = subst (In y) list i in
-                  (sent-list .1 .positive y k, below-in (take (sentCount f) e) (below-take (sentCount f) e small) y k));
+                  (own-sound (o .ready) .1 .positive y k, below-in (take (sentCount f) e) (below-take (sentCount f) e small) y k));
               light = omega (arith, none);
             };
         mine = count ∙ sent;

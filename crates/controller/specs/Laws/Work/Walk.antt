@@ -37,7 +37,7 @@ module _ (v : ℕ → ℕ) (h : ℕ) (c : List ℕ) (pos : 0 < h) where
   not-two-thirds : (y : ℕ) → v y ≡ 0 → twoThirds (v y) h ≡ true → ⊥
   not-two-thirds y e t = omega (arith, two-thirds-is (v y) h .0 t)
 
-  settles-on : (x z : ℕ) {e k : List ℕ} {r : Settled} → x ≤ z → ((y : ℕ) → x ≤ y → y < z → v y ≡ 0) → Settles v h c x e k r → Settles v h c z e k r
+  pub settles-on : (x z : ℕ) {e k : List ℕ} {r : Settled} → x ≤ z → ((y : ℕ) → x ≤ y → y < z → v y ≡ 0) → Settles v h c x e k r → Settles v h c z e k r
   settles-on x z {k = k} {r = r} le none g = record {
     echoes = holds-other (g .echoes)
         (λ y p. (omega (arith, p .0), p .1))
@@ -52,7 +52,7 @@ module _ (v : ℕ → ℕ) (h : ℕ) (c : List ℕ) (pos : 0 < h) where
     fits = g .fits;
   }
 
-  settles-all : (x : ℕ) {e k : List ℕ} {r : Settled} → ((y : ℕ) → x ≤ y → v y ≡ 0) → Settles v h c x e k r → Sorts v h c e k r
+  pub settles-all : (x : ℕ) {e k : List ℕ} {r : Settled} → ((y : ℕ) → x ≤ y → v y ≡ 0) → Settles v h c x e k r → Sorts v h c e k r
   settles-all x none g = record {
     echoes = λ fits. holds-other (g .echoes) (λ y p. p .1)
         (λ y p. elim (decLt y x) [ yes l ↦ (l, p) | no l ↦ absurd (not-third y (none y (omega arith)) (p .0)) ]);

@@ -11,7 +11,7 @@ use Rattle.controller.specs.Work.Opened.{endMark, openList, Opens, weigh
 use Rattle.controller.specs.Laws.Lists.{out-mem}
 use Rattle.controller.specs.Laws.Work.Total.{total-none, total-most}
 
-pub cond-most : (t : Bool) (k : ℕ) → cond t k 0 ≤ k
+cond-most : (t : Bool) (k : ℕ) → cond t k 0 ≤ k
 cond-most true k = omega arith
 cond-most false k = omega arith
 
