@@ -1,12 +1,13 @@
 // The soundness of a state, document 01's "sound".
+ghost use mathlib.Core.Bool.{cond};
 ghost use mathlib.Core.Path.{_≡_};
-ghost use Prim.Native.Nat.{_≤_};
 ghost use lib.ListN.{length};
 ghost use Rattle.wire.specs.Lent.{before};
 ghost use Rattle.wire.specs.Limits.{maxNumbers};
-ghost use Rattle.wire.specs.Numbers.{stored, listed};
 ghost use Rattle.controller.specs.Fields.{wholeOf, stateBefore, wholeBefore, bare};
-ghost use Rattle.controller.specs.State.{same, soundList, sound, soundSaid};
+ghost use Rattle.controller.specs.Lists.{countIf};
+ghost use Rattle.controller.specs.State.{soundList, sound, soundSaid};
+ghost use Rattle.controller.specs.Work.First.{isZero};
 ghost use Rattle.controller.specs.Work.Lists.{inPlaces};
 ghost use Rattle.controller.specs.Work.Sound.{emptySound, bitsSound, fieldsSound, listsSound};
 use crate::first::rounds_sound;
@@ -22,27 +23,36 @@ use wire::limits::MAX_NUMBERS;
 use wire::limits::NO_BIT;
 use wire::limits::VALUE;
 
-// Whether the unused places are 0, as they are in the stored form. They are joined by `|`, so that the loop looks at four at a time.
-fn unused_zero(at: &[u32], len: usize) -> bool
-    requires { ⌜ (len ≤ maxNumbers) × (length (now at) ≡ maxNumbers) ⌝ }
-    ensures { λ r. ⌜ r ≡ same (before at) ((stored (listed (inPlaces len (before at)))) .at) ⌝ }
+// 1 for a place that is 0, else 0.
+fn zero_place(x: u32) -> u32
+    ensures { λ r. ⌜ r ≡ cond (isZero x) 1 0 ⌝ }
 {
-    let mut all = 0;
-    let mut i = len;
-    while i < MAX_NUMBERS {
-        all = all | at[i];
-        i += 1;
-    }
-    all == 0
+    if x == 0 { 1 } else { 0 }
 }
 
-// Whether the unused places are 0 and the numbers rise: the stored form of a list.
+// How many of the 64 places are 0. They are counted in words of their own width, so that the loop takes four at a time.
+fn zero_places(at: &[u32]) -> u32
+    requires { ⌜ length (now at) ≡ maxNumbers ⌝ }
+    ensures { λ r. ⌜ r ≡ countIf isZero (before at) ⌝ }
+{
+    let mut zeros = 0;
+    let mut i = 0;
+    while i < MAX_NUMBERS {
+        zeros += zero_place(at[i]);
+        i += 1;
+    }
+    zeros
+}
+
+// Whether the numbers rise and the unused places are 0: the stored form of a list. Numbers that rise are not 0, so if as many places are 0 as are unused, they
+// are those.
 fn is_list(at: &[u32; MAX_NUMBERS], len: usize) -> bool
     ensures { λ r. ⌜ r ≡ soundList (inPlaces len (before at)) ⌝ }
 {
     // The making of a slice shows how many places an array has.
     let places = &at[..];
-    (len <= MAX_NUMBERS) && (rise(&places[0..len]) & unused_zero(places, len))
+    (len <= MAX_NUMBERS)
+        && (rise(&places[0..len]) & (zero_places(places) as usize + len == MAX_NUMBERS))
 }
 
 fn said_sound(fields: Fields) -> bool

@@ -8,7 +8,7 @@ use borrow.Author.Needs.{needs}
 use denote.Ref.{now}
 use lib.ListN.{length, getD, take}
 use lib.Seq.{length-take-le}
-use Rattle.controller.specs.Laws.Lists.{count-further, count-split}
+use Rattle.controller.specs.Laws.Work.First.{zeros-further, zeros-few}
 use Rattle.controller.specs.Lists.{countIf}
 use Rattle.controller.specs.Work.First.{isZero}
 use Rattle.controller.proofs.first.zeros.Statement.{statement}
@@ -20,15 +20,6 @@ Inv-loop rounds len zeros₀ i₀ zeros i = (i ≤ len) × (zeros ≡ countIf is
 abbrev μ-loop : tie.MeasureT-loop
 μ-loop rounds len zeros₀ i₀ zeros i = len - i
 
--- one turn: the place i, counted, is one of the first i + 1
-turn : (s : List ℕ) (i n one : ℕ) → i < length s → n ≡ countIf isZero (take i s) → one ≡ cond (isZero (getD s i 0)) 1 0
-    → n + one ≡ countIf isZero (take (i + 1) s)
-turn s i n one h sum more = rw (sum, more) (sym (count-further isZero s i h))
-
--- of i places at most i are 0
-few : (s : List ℕ) (i : ℕ) → i ≤ length s → countIf isZero (take i s) ≤ i
-few s i h = omega (arith, count-split isZero (take i s), length-take-le i s h)
-
 -- what was given, and the total with the place of a turn
 abbrev given : tie.After-one-if Inv-loop μ-loop → List ℕ
 given c = now (c .before .before .before .before .args .rounds)
@@ -38,11 +29,11 @@ counted : (c : tie.After-one-if Inv-loop μ-loop)
     v .zeros + c .one-if .result ≡ countIf isZero (take (v .i + 1) (given c))
 counted c =
     let v = c .before .before .before .loop in
-    turn (given c) (v .i) (v .zeros) (c .one-if .result) (search needs) (v .inv .1) (c .one-if .ensures)
+    zeros-further (given c) (v .i) (v .zeros) (c .one-if .result) (search needs) (v .inv .1) (c .one-if .ensures)
 
 -- so that it fits a byte
 small : (c : tie.After-one-if Inv-loop μ-loop) → let v = c .before .before .before .loop in v .zeros + c .one-if .result ≤ v .i + 1
-small c = omega (arith, counted c, few (given c) (c .before .before .before .loop .i + 1) (search needs))
+small c = omega (arith, counted c, zeros-few (given c) (c .before .before .before .loop .i + 1) (search needs))
 
 loop-holds : tie.Need-loop-holds Inv-loop μ-loop
 loop-holds c = (search needs, refl)

@@ -1,4 +1,4 @@
--- `controller::sound::is_list` meets its contract: it is the tests of `soundList` in their order.
+-- `controller::sound::is_list` meets its contract: it is the tests of `soundList` in their order, the last one made by a count.
 use mathlib.Core.Path.{_≡_}
 use native.Mathlib.Nat.{sub-zero}
 use borrow.Author.Needs.{needs}
@@ -7,6 +7,7 @@ use denote.Ref.{now}
 use lib.ListN.{take}
 use Rattle.wire.specs.Limits.{maxNumbers}
 use Rattle.wire.specs.Numbers.{rising}
+use Rattle.controller.specs.Laws.Work.First.{list-is}
 use Rattle.controller.proofs.sound.is_list.Statement.{statement}
 use Rattle.controller.proofs.sound.is_list.Tie as tie
 
@@ -32,11 +33,19 @@ part-rise-end c = search needs
 rise-requires : tie.Need-rise-requires
 rise-requires c κs = search needs
 
-unused-zero-requires : tie.Need-unused-zero-requires
-unused-zero-requires c κs = search needs
+zero-places-requires : tie.Need-zero-places-requires
+zero-places-requires c κs = search needs
+
+cast-result : tie.Need-cast-result
+cast-result c = search needs
+
+add-result : tie.Need-add-result
+add-result c = search needs
 
 returns : tie.Need-returns
-returns c = rw (le-leb _ maxNumbers (fitting (c .before) .if1 .taken), rise-is (c .before), c .unused-zero .ensures)
+returns c =
+    let fits = fitting (c .before) .if1 .taken in
+    rw (le-leb _ maxNumbers fits, rise-is (c .before), c .zero-places .ensures) (list-is _ _ (search needs) fits)
 
 returns-2 : tie.Need-returns-2
 returns-2 c = rw (lt-leb _ maxNumbers (c .if1 .left))
@@ -49,6 +58,8 @@ is-list-spec =
     part-rise-start
     part-rise-end
     rise-requires
-    unused-zero-requires
+    zero-places-requires
+    cast-result
+    add-result
     returns
     returns-2)

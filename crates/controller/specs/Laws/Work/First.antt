@@ -1,6 +1,6 @@
--- Laws of the record beside those heard, as first.rt tests it: two counts of its zeros say what the rules say place by place.
+-- Laws of the record beside those heard, as first.rt tests it, and of lists, as sound.rt does: counts of zeros say what the rules say place by place.
 use Prim.Native.Nat.{ℕ, zero, suc, _+_, _-_, _≤_, _<_}
-use mathlib.Core.Bool.{Bool, true, false, not, _&&_, and-assoc, and-false}
+use mathlib.Core.Bool.{Bool, true, false, not, cond, _&&_, and-assoc, and-false}
 use mathlib.Core.List.{List, [], _∷_, _++_, List·Memᴰ·head, List·Memᴰ·tail}
 use mathlib.Core.Logic.{inl, inr, _≢_}
 use mathlib.Core.Path.{_≡_, refl, sym, ap, _∙_}
@@ -10,11 +10,23 @@ use lib.Dec.{ltb, eqb, eqb·suc-suc}
 use lib.ListN.{length, getD, take, drop, replicate, length-drop, take-append-drop}
 use lib.Seq.{getD-take, length-take-le}
 use Rattle.wire.specs.Limits.{maxNumbers, lastRound}
+use Rattle.wire.specs.Numbers.{rising, stored}
 use Rattle.controller.specs.Lists.{In, countIf, Rising}
 use Rattle.controller.specs.State.{same, recorded, firstFits, alongside, soundBeside}
 use Rattle.controller.specs.Work.First.{isZero, timely}
-use Rattle.controller.specs.Laws.Lists.{true-or-false, getD-in, count-append, count-short, count-split}
+use Rattle.controller.specs.Laws.Lists.{true-or-false, getD-in, count-append, count-further, count-none, count-short, count-split, rising-gives}
 use Rattle.controller.specs.Laws.State.{same-gives, same-append}
+
+-- ---- counting
+
+-- one place more
+pub zeros-further : (s : List ℕ) (i n one : ℕ) → i < length s → n ≡ countIf isZero (take i s) → one ≡ cond (isZero (getD s i 0)) 1 0
+    → n + one ≡ countIf isZero (take (i + 1) s)
+zeros-further s i n one h sum more = rw (sum, more) (sym (count-further isZero s i h))
+
+-- of i places at most i are 0
+pub zeros-few : (s : List ℕ) (i : ℕ) → i ≤ length s → countIf isZero (take i s) ≤ i
+zeros-few s i h = omega (arith, count-split isZero (take i s), length-take-le i s h)
 
 -- ---- the used places
 
@@ -104,13 +116,13 @@ timely-append : (u r : List ℕ) → timely (u ++ r) ≡ (timely u && timely r)
 timely-append [] r = refl
 timely-append (t ∷ u) r = rw (timely-append u r) (sym (and-assoc (ltb t lastRound) (timely u) (timely r)))
 
--- a 0s in the used places, b in the others: where a is 1, the count of all says whether b is one for each of the others
-rest-test : (a b n : ℕ) → a ≡ 1 → n ≤ maxNumbers → eqb (a + b + n) (maxNumbers + 1) ≡ eqb b (maxNumbers - n)
-rest-test a b n one h = elim (true-or-false (eqb b (maxNumbers - n))) [
-  | inl e ↦ rw e (eq-eqb (a + b + n) (maxNumbers + 1) (omega (arith, eqb-true b (maxNumbers - n) e)))
+-- a 0s in the used places, b in the others: where a is known, the count of all says whether b is one for each of the others
+rest-test : (a b n k : ℕ) → a ≡ k → n ≤ maxNumbers → eqb (a + b + n) (maxNumbers + k) ≡ eqb b (maxNumbers - n)
+rest-test a b n k known h = elim (true-or-false (eqb b (maxNumbers - n))) [
+  | inl e ↦ rw e (eq-eqb (a + b + n) (maxNumbers + k) (omega (arith, eqb-true b (maxNumbers - n) e)))
   | inr e ↦
       let apart : b ≢ maxNumbers - n = eqb-false b (maxNumbers - n) e in
-      rw e (ne-eqb (a + b + n) (maxNumbers + 1) (λ q. absurd (omega arith)))
+      rw e (ne-eqb (a + b + n) (maxNumbers + k) (λ q. absurd (omega arith)))
 ]
 
 -- a: the own place is 0; b: one used place is; c: the count of all fits; p, q: the used and the unused places are timely; z: the unused ones are 0
@@ -131,12 +143,21 @@ module _ (w : List ℕ) (n : ℕ) (places : length w ≡ maxNumbers) (fits : n �
   abbrev clear : Bool
   clear = same unused (replicate (maxNumbers - n) 0)
 
-  -- where one used place is 0, the count of all tells of the unused ones
-  counted : eqb (countIf isZero used) 1 ≡ true → eqb (countIf isZero w + n) (maxNumbers + 1) ≡ clear
-  counted one =
-      ap (λ (s : List ℕ). eqb (countIf isZero s + n) (maxNumbers + 1)) (sym (take-append-drop n w))
-      ∙ rw (count-append isZero used unused) (rest-test (countIf isZero used) (countIf isZero unused) n (eqb-true (countIf isZero used) 1 one) fits)
+  -- where so many used places are 0, the count of all tells of the unused ones
+  counted : (k : ℕ) → countIf isZero used ≡ k → eqb (countIf isZero w + n) (maxNumbers + k) ≡ clear
+  counted k some =
+      ap (λ (s : List ℕ). eqb (countIf isZero s + n) (maxNumbers + k)) (sym (take-append-drop n w))
+      ∙ rw (count-append isZero used unused) (rest-test (countIf isZero used) (countIf isZero unused) n k some fits)
       ∙ sym (all-zero unused (maxNumbers - n) (length-drop n w ∙ rw places))
+
+  -- numbers that rise are not 0; so it is with a list
+  pub list-is : (rising 0 used && eqb (countIf isZero w + n) maxNumbers) ≡ (rising 0 used && same w ((stored used) .at))
+  list-is = elim (true-or-false (rising 0 used)) [
+    | inl t ↦
+        let none = count-none isZero used (λ x i. ne-eqb x 0 (λ e. absurd (omega (arith, rising-gives used t .1 x i)))) in
+        rw t (counted 0 none ∙ sym (recorded-is w n (rw places fits)))
+    | inr t ↦ rw t
+  ]
 
   -- which are timely then
   timed : clear ≡ true → timely unused ≡ true
@@ -152,4 +173,5 @@ module _ (w : List ℕ) (n : ℕ) (places : length w ≡ maxNumbers) (fits : n �
       let both : timely w ≡ (timely used && timely unused) = ap timely (sym (take-append-drop n w)) ∙ timely-append used unused in
       let beside = fits-used l used i up (length-take-le n w few ∙ sym size) (rw size h) in
       rw (both, size, recorded-is w n few, beside, getD-take n w i 0 h)
-      (join (isZero (getD w i 0)) (eqb (countIf isZero used) 1) _ (timely used) (timely unused) clear counted timed)
+      (join (isZero (getD w i 0)) (eqb (countIf isZero used) 1) _ (timely used) (timely unused) clear
+      (λ one. counted 1 (eqb-true (countIf isZero used) 1 one)) timed)
