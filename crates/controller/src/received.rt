@@ -137,10 +137,10 @@ fn noted_bit(tray: &[u8], note: u32, round: u32) -> u8
 pub(crate) fn received_bit(round: u32, absent: u8, tray: &[u8], note: u32) -> u8
     ensures { λ r. ⌜ r ≡ bitUnder round absent (before tray) note ⌝ }
 {
-    if note == NO_FRAME {
-        absent
-    } else {
+    if note != NO_FRAME {
         noted_bit(tray, note, round)
+    } else {
+        absent
     }
 }
 
