@@ -1,6 +1,6 @@
 -- How a host's call meets its promise.
 --     parted             an answer that meets the controller's promise meets it in parts
---     made-sound         the state of an answer that is not refused is the one promised, so it is sound where that is
+--     made               the state of an answer that is not refused is the one promised, so that what holds of that holds of it
 --     promise-handed     an answer that meets the controller's promise, handed over, meets the host's
 --     image-refused    a refusal under 1 stores nothing
 use Prim.Native.Nat.{ℕ}
@@ -10,7 +10,7 @@ use mathlib.Core.Path.{_≡_, refl, sym, ap, _∙_}
 use lib.Dec.{eqb}
 use Rattle.controller.specs.Calls.{Promise}
 use Rattle.controller.specs.Fields.{wholeOf, answerOf}
-use Rattle.controller.specs.State.{View, storedState, sound}
+use Rattle.controller.specs.State.{View, storedState}
 use Rattle.controller.specs.declared.state.Answer.{Answer}
 use Rattle.controller.specs.declared.state.Fields.{Fields}
 use Rattle.controller.specs.declared.state.State.{State}
@@ -22,10 +22,11 @@ module _ (k : ℕ) (v : View) (d : List ℕ) (s : State) (before : List ℕ) (a 
       → Promise k v d s before (answerOf (record { refusal = a .refusal; fields = f; length = a .length }) heard candidates echoes since) after
   parted f heard candidates echoes since e = record { number = p .number; state = e ∙ p .state; written = p .written; output = p .output }
 
-  pub made-sound : (k ≡ 0 → sound (storedState v d) ≡ true) → a .refusal ≡ 0 → sound (a .state) ≡ true
-  made-sound f h =
+  pub made : (P : State → Type 0) → (k ≡ 0 → P (storedState v d)) → a .refusal ≡ 0 → P (a .state)
+  made P f h =
       let e : k ≡ 0 = sym (p .number) ∙ h in
-      ap sound (p .state ∙ rw e) ∙ f e
+      let same : a .state ≡ storedState v d = p .state ∙ rw e in
+      rw same (f e)
 
   -- only a state that was made is laid out
   laid-out : (b : List ℕ) → cond (eqb (a .refusal) 0) (laidOut (a .state)) b ≡ cond (eqb k 0) (laidOut (storedState v d)) b

@@ -1,25 +1,32 @@
 -- The image of a state, 1,024 bytes that a host keeps: the page docs/IMAGE.md, and document 01, "A controller's state", with document 02's A8.
 --     imageBytes, ownAt, ..     the image's length and the offsets of its fields
+--     Sized n                   the list n has a count that fits, and its 64 places; SizedRotation f c e, so have candidates and echoes
 --     listBytes n               a list's 260 bytes: its count, then its 64 places
 --     zerosFrom at              as many zeros as an image has bytes from at on
 --     laidOut s                 the bytes of the state s
+--     withRotation s b          the bytes b with candidates and echoes of the state s in their places
 --     placesAt b at             the 64 places that stand in b from at on
 --     listAt b at               the list that stands in b from at on
 --     roundsAt b                the record that stands in b
 --     takenApart b              the state in the bytes b
---     withLists s b             the bytes b with the lists of the state s in their places
 --     zeros l                   each number of l is 0
 --     shaped b                  the bytes are as many as an image has, and the reserved ones are 0
 --     soundImage b              so they are, and the state in them is sound
-use Prim.Native.Nat.{ℕ, _+_, _-_}
-use mathlib.Core.Bool.{Bool, true, _&&_}
+--     renewedHeard k s b        the bytes b with heard and the record of s in their places, where those heard are not k
+--     renewedRotation s b       the bytes b with candidates and echoes of s in their places, where s's round is that of a roster or a value
+--     LaysOver k s b            what is known before a step's changes are stored over b: s is the state made, and k were heard before
+use Prim.Native.Nat.{ℕ, _+_, _-_, _≤_, _<_}
+use mathlib.Core.Bool.{Bool, true, cond, _&&_}
 use mathlib.Core.List.{List, [], _∷_, _++_}
-use lib.Dec.{eqb}
+use mathlib.Core.Path.{_≡_}
+use lib.Dec.{eqb, leb}
 use lib.ListN.{length, getD, drop, replicate}
 use lib.Seq.{sets, slice}
+use Rattle.wire.specs.Frame.{kindOf}
 use Rattle.wire.specs.Limits.{maxNumbers}
 use Rattle.wire.specs.declared.frame.Numbers.{Numbers}
 use Rattle.controller.specs.State.{sound}
+use Rattle.controller.specs.declared.state.Fields.{Fields}
 use Rattle.controller.specs.declared.state.State.{State}
 use Rattle.controller_c.specs.Words.{numberAt, numberBytes, numbersAt, numbersBytes}
 
@@ -75,6 +82,15 @@ listWidth = 260
 
 -- ---- from a state to its image
 
+-- what every list of a sound state has
+pub record Sized (n : Numbers) : Type 0 where
+  pub few : n .len ≤ maxNumbers
+  pub places : length (n .at) ≡ maxNumbers
+
+pub record SizedRotation (f : Fields) (c e : List ℕ) : Type 0 where
+  pub candidates : Sized (record { len = f .candidates; at = c })
+  pub echoes : Sized (record { len = f .echoes; at = e })
+
 -- the fields before the lists
 abbrev pub headBytes : State → List ℕ
 headBytes s =
@@ -93,8 +109,8 @@ zerosFrom at = replicate (imageBytes - at) 0
 unfoldable pub laidOut : State → List ℕ
 laidOut s = headBytes s ++ (listBytes (s .heard) ++ (listBytes (s .candidates) ++ (listBytes (s .echoes) ++ (s .since ++ zerosFrom reservedAt))))
 
-abbrev pub withLists : State → List ℕ → List ℕ
-withLists s b = sets (sets (sets b heardAt (listBytes (s .heard))) candidatesAt (listBytes (s .candidates))) echoesAt (listBytes (s .echoes))
+abbrev pub withRotation : State → List ℕ → List ℕ
+withRotation s b = sets (sets b candidatesAt (listBytes (s .candidates))) echoesAt (listBytes (s .echoes))
 
 -- ---- from an image to the state in it
 
@@ -137,3 +153,19 @@ shaped b = eqb (length b) imageBytes && zeros (drop reservedAt b)
 
 unfoldable pub soundImage : List ℕ → Bool
 soundImage b = shaped b && sound (takenApart b)
+
+-- ---- from a state to the image of the one before it
+
+-- where nobody is new, heard and the record are as they were
+abbrev pub renewedHeard : ℕ → State → List ℕ → List ℕ
+renewedHeard k s b = cond (eqb (s .heard .len) k) b (sets (sets b heardAt (listBytes (s .heard))) sinceAt (s .since))
+
+-- the steps that make the other kinds leave candidates and echoes as they were
+abbrev pub renewedRotation : State → List ℕ → List ℕ
+renewedRotation s b = cond (leb (kindOf (s .round)) 3) (withRotation s b) b
+
+pub record LaysOver (k : ℕ) (s : State) (b : List ℕ) : Type 0 where
+  pub image : soundImage b ≡ true
+  pub made : sound s ≡ true
+  pub heard : s .heard .len ≡ k → ((takenApart b) .heard ≡ s .heard) × ((takenApart b) .since ≡ s .since)
+  pub rotation : 3 < kindOf (s .round) → ((takenApart b) .candidates ≡ s .candidates) × ((takenApart b) .echoes ≡ s .echoes)

@@ -2,3 +2,4 @@
 pub mod Words
 pub mod Image
 pub mod Calls
+pub mod Changed

@@ -8,10 +8,11 @@ ghost use lib.ListN.{length, drop};
 ghost use lib.Seq.{sets};
 ghost use Rattle.wire.specs.Lent.{before, after};
 ghost use Rattle.wire.specs.Limits.{maxNumbers, numberWidth};
-ghost use Rattle.controller.specs.Fields.{stateGiven, stateOf, stateBefore, wholeGiven, wholeOf, wholeBefore};
-ghost use Rattle.controller.specs.State.{sound, soundRules};
-ghost use Rattle.controller_c.specs.Image.{withLists, imageBytes, heardAt, sinceAt, reservedAt, listWidth, headBytes, listBytes, zerosFrom};
-ghost use Rattle.controller_c.specs.Image.{laidOut, placesAt, listAt, roundsAt, takenApart, zeros, shaped, soundImage};
+ghost use Rattle.controller.specs.Fields.{stateOf, wholeGiven, wholeOf, wholeBefore};
+ghost use Rattle.controller.specs.State.{sound};
+ghost use Rattle.controller_c.specs.Image.{imageBytes, heardAt, sinceAt, reservedAt, listWidth, Sized, SizedRotation, headBytes, listBytes, zerosFrom};
+ghost use Rattle.controller_c.specs.Image.{laidOut, withRotation, placesAt, listAt, roundsAt, takenApart, zeros, shaped, soundImage};
+ghost use Rattle.controller_c.specs.Image.{renewedHeard, renewedRotation, LaysOver};
 ghost use Rattle.controller_c.specs.Words.{numbersBytes};
 use crate::layout::CANDIDATES_AT;
 use crate::layout::COUNT_BYTES;
@@ -31,8 +32,10 @@ use crate::word::put_word;
 use crate::word::word;
 use controller::sound::is_sound;
 use controller::state::Fields;
+use wire::frame::kind_of;
 use wire::limits::MAX_NUMBERS;
 use wire::limits::NUMBER_WIDTH;
+use wire::limits::VALUE;
 
 // Whether the reserved bytes are 0. They are joined by `|`, so that the loop has no way out to wait for.
 fn reserved_zero(image: &[u8]) -> bool
@@ -163,24 +166,23 @@ fn put_places(image: &mut [u8], from: usize, at: &[u32; MAX_NUMBERS])
 }
 
 fn put_list(image: &mut [u8], from: usize, at: &[u32; MAX_NUMBERS], len: usize)
-    requires { ⌜ (from + listWidth ≤ length (now image)) × (len ≤ maxNumbers) × (length (now at) ≡ maxNumbers) ⌝ }
+    requires { ⌜ Sized (record { len = len; at = now at }) × (from + listWidth ≤ length (now image)) ⌝ }
     ensures { λ r. ⌜ after image ≡ sets (before image) from (listBytes (record { len = len; at = before at })) ⌝ }
 {
     put_word(image, from, len as u32);
     put_places(image, from + COUNT_BYTES, at);
 }
 
-fn put_lists(
+// Candidates and echoes.
+fn put_rotation(
     image: &mut [u8],
     fields: Fields,
-    heard: &[u32; MAX_NUMBERS],
     candidates: &[u32; MAX_NUMBERS],
     echoes: &[u32; MAX_NUMBERS],
 )
-    requires { ⌜ (soundRules (stateGiven fields heard candidates echoes) ≡ true) × (sinceAt ≤ length (now image)) ⌝ }
-    ensures { λ r. ⌜ after image ≡ withLists (stateBefore fields heard candidates echoes) (before image) ⌝ }
+    requires { ⌜ SizedRotation fields (now candidates) (now echoes) × (sinceAt ≤ length (now image)) ⌝ }
+    ensures { λ r. ⌜ after image ≡ withRotation (stateOf fields [] (before candidates) (before echoes)) (before image) ⌝ }
 {
-    put_list(image, HEARD_AT, heard, fields.heard);
     put_list(image, CANDIDATES_AT, candidates, fields.candidates);
     put_list(image, ECHOES_AT, echoes, fields.echoes);
 }
@@ -221,7 +223,61 @@ pub(crate) fn lay_out(
     ensures { λ r. ⌜ after image ≡ laidOut (wholeBefore fields heard candidates echoes since) ⌝ }
 {
     put_head(image, fields);
-    put_lists(image, fields, heard, candidates, echoes);
+    put_list(image, HEARD_AT, heard, fields.heard);
+    put_rotation(image, fields, candidates, echoes);
     put_rounds(image, since);
     clear_reserved(image);
+}
+
+// ---- from a state to the image of the one before it
+
+// Those heard, with the record beside them: where they are as many as before they are the same, and nothing is stored.
+fn renew_heard(
+    image: &mut [u8],
+    known: usize,
+    fields: Fields,
+    heard: &[u32; MAX_NUMBERS],
+    since: &[u8; MAX_NUMBERS],
+)
+    requires { ⌜ Sized (record { len = fields .heard; at = now heard }) × (length (now since) ≡ maxNumbers) × (reservedAt ≤ length (now image)) ⌝ }
+    ensures { λ r. ⌜ after image ≡ renewedHeard known (wholeOf fields (before heard) [] [] (before since)) (before image) ⌝ }
+{
+    let len = fields.heard;
+    if len != known {
+        put_list(image, HEARD_AT, heard, len);
+        put_rounds(image, since);
+    }
+}
+
+// Candidates and echoes, which only the making of a roster and of a value change.
+fn renew_rotation(
+    image: &mut [u8],
+    fields: Fields,
+    candidates: &[u32; MAX_NUMBERS],
+    echoes: &[u32; MAX_NUMBERS],
+)
+    requires { ⌜ SizedRotation fields (now candidates) (now echoes) × (sinceAt ≤ length (now image)) ⌝ }
+    ensures { λ r. ⌜ after image ≡ renewedRotation (stateOf fields [] (before candidates) (before echoes)) (before image) ⌝ }
+{
+    if kind_of(fields.round) <= VALUE {
+        put_rotation(image, fields, candidates, echoes);
+    }
+}
+
+// What a step changed, from the state that it made, in parts, over the image of the state before it, of which `known` are heard.
+pub(crate) fn lay_over(
+    known: usize,
+    fields: Fields,
+    heard: &[u32; MAX_NUMBERS],
+    candidates: &[u32; MAX_NUMBERS],
+    echoes: &[u32; MAX_NUMBERS],
+    since: &[u8; MAX_NUMBERS],
+    image: &mut [u8],
+)
+    requires { ⌜ LaysOver known (wholeGiven fields heard candidates echoes since) (now image) ⌝ }
+    ensures { λ r. ⌜ after image ≡ laidOut (wholeBefore fields heard candidates echoes since) ⌝ }
+{
+    put_head(image, fields);
+    renew_heard(image, known, fields, heard, since);
+    renew_rotation(image, fields, candidates, echoes);
 }

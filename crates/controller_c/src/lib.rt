@@ -8,12 +8,13 @@ ghost use Rattle.wire.specs.Frame.{readRefusal};
 ghost use Rattle.wire.specs.Lent.{before, after};
 ghost use Rattle.controller.specs.Fields.{answerOf};
 ghost use Rattle.controller.specs.State.{firstRounds};
-ghost use Rattle.controller_c.specs.Calls.{StartImagePromise, TrayImagePromise, fieldOf, HandsOver, HandedOver};
+ghost use Rattle.controller_c.specs.Calls.{StartImagePromise, TrayImagePromise, fieldOf, HandsOver, HandsBack, HandedOver};
 ghost use Rattle.controller_c.specs.Image.{echoesAt, soundImage, takenApart};
 ghost use Rattle.controller_c.specs.Words.{numberAt};
 use crate::image::is_shaped;
 use crate::image::is_sound_image;
 use crate::image::lay_out;
+use crate::image::lay_over;
 use crate::image::take_apart;
 use crate::image::take_rounds;
 use crate::layout::CANDIDATES_AT;
@@ -38,7 +39,7 @@ mod image;
 mod layout;
 mod word;
 
-// Hands a call's answer over: the state goes into the image unless the call was refused.
+// Hands a start's answer over: the state goes into the image unless the start was refused.
 fn hand_over(
     worked: Worked,
     heard: &[u32; MAX_NUMBERS],
@@ -57,6 +58,30 @@ fn hand_over(
     if refusal == 0 {
         let fields = worked.fields;
         lay_out(fields, heard, candidates, echoes, since, image);
+    }
+    refusal
+}
+
+// Hands a tray's answer over: what the step changed goes into the image, of which `known` are heard, unless the tray was refused.
+fn hand_back(
+    known: usize,
+    worked: Worked,
+    heard: &[u32; MAX_NUMBERS],
+    candidates: &[u32; MAX_NUMBERS],
+    echoes: &[u32; MAX_NUMBERS],
+    since: &[u8; MAX_NUMBERS],
+    image: &mut [u8],
+    written: &mut usize,
+) -> u8
+    requires { ⌜ HandsBack known (answerOf worked (now heard) (now candidates) (now echoes) (now since)) (now image) ⌝ }
+    ensures { λ r.
+        ⌜ HandedOver (answerOf worked (before heard) (before candidates) (before echoes) (before since)) (before image) r (after image) (after written) ⌝ }
+{
+    *written = worked.length;
+    let refusal = worked.refusal;
+    if refusal == 0 {
+        let fields = worked.fields;
+        lay_over(known, fields, heard, candidates, echoes, since, image);
     }
     refusal
 }
@@ -131,7 +156,16 @@ pub extern "C" fn controller_tray(
             tray,
             out,
         );
-        hand_over(worked, &heard, &candidates, &echoes, &since, image, written)
+        hand_back(
+            fields.heard,
+            worked,
+            &heard,
+            &candidates,
+            &echoes,
+            &since,
+            image,
+            written,
+        )
     } else {
         no_image(written)
     }

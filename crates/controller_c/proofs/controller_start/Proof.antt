@@ -2,9 +2,13 @@
 -- whose answer is handed over in parts.
 use borrow.Author.Needs.{needs}
 use borrow.Author.Tests.{eq-eqb, ne-eqb}
+use mathlib.Core.Bool.{true}
+use mathlib.Core.Path.{_≡_}
+use Rattle.controller.specs.State.{sound}
+use Rattle.controller.specs.declared.state.State.{State}
 use Rattle.controller_c.specs.Image.{imageBytes}
 use Rattle.controller_c.specs.Laws.Calls.{start-makes}
-use Rattle.controller_c.proofs.Promises.{parted, made-sound, promise-handed, image-refused}
+use Rattle.controller_c.proofs.Promises.{parted, made, promise-handed, image-refused}
 use Rattle.controller_c.proofs.controller_start.Statement.{statement}
 use Rattle.controller_c.proofs.controller_start.Tie as tie
 
@@ -27,7 +31,9 @@ hand-over-requires c κs =
     let begun = started apart in
     record {
       whole = search needs;
-      made = made-sound _ _ _ _ _ _ _ (parted _ _ _ _ _ _ _ (begun .start .ensures) _ _ _ _ _ (apart .fields-of .ensures)) (start-makes _ _ _);
+      made =
+          made _ _ _ _ _ _ _ (parted _ _ _ _ _ _ _ (begun .start .ensures) _ _ _ _ _ (apart .fields-of .ensures))
+          (λ (s : State). sound s ≡ true) (start-makes _ _ _);
     }
 
 no-image-requires : tie.Need-no-image-requires

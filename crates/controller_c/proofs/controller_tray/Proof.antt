@@ -1,5 +1,5 @@
 -- `controller_c::controller_tray` meets its contract: an image of the right shape leaves the refusal to the controller's call in place,
--- whose answer is handed over.
+-- whose answer is handed over, and what that leaves out did not change.
 use borrow.Author.Needs.{needs}
 use Prim.Native.Nat.{ℕ}
 use mathlib.Core.Bool.{true}
@@ -10,16 +10,26 @@ use Rattle.controller.specs.Calls.{TrayPromise}
 use Rattle.controller.specs.Fields.{wholeOf}
 use Rattle.controller.specs.declared.state.Answer.{Answer}
 use Rattle.controller.specs.declared.state.State.{State}
-use Rattle.controller_c.specs.Image.{takenApart, shaped}
-use Rattle.controller_c.specs.Laws.Calls.{shaped-refusal, unshaped-refusal, tray-makes}
+use Rattle.controller_c.specs.Calls.{HandsBack}
+use Rattle.controller_c.specs.Image.{takenApart, shaped, LaysOver}
+use Rattle.controller_c.specs.Laws.Calls.{shaped-refusal, unshaped-refusal}
+use Rattle.controller_c.specs.Laws.Changed.{tray-lays-over}
 use Rattle.controller_c.specs.Laws.Image.{shaped-length}
-use Rattle.controller_c.proofs.Promises.{made-sound, promise-handed, image-refused}
+use Rattle.controller_c.proofs.Promises.{made, promise-handed, image-refused}
 use Rattle.controller_c.proofs.controller_tray.Statement.{statement}
 use Rattle.controller_c.proofs.controller_tray.Tie as tie
 
 -- what is promised of the state in parts is promised of that in the image
 joined : (s d : State) (t before : List ℕ) (a : Answer) (after : List ℕ) → s ≡ d → TrayPromise s t before a after → TrayPromise d t before a after
 joined s d t before a after e p = rw e at p
+
+-- what is known of the answer before it is handed over
+answered : (s : State) (b t before : List ℕ) (a : Answer) (after : List ℕ) → s ≡ takenApart b → shaped b ≡ true → TrayPromise s t before a after
+    → HandsBack (s .heard .len) a b
+answered s b t before a after e h p =
+    rw e
+    (made _ _ _ _ _ _ _ (joined s (takenApart b) t before a after e p) (λ (u : State). LaysOver ((takenApart b) .heard .len) u b)
+    (tray-lays-over b t _ h))
 
 -- what was given; a shaped image, its record and its other parts; the call of `work`
 abbrev given : tie.After-slice-known2 → tie.Start
@@ -34,7 +44,7 @@ rounds c = c .before .before .before .before
 abbrev parts : tie.After-work-arg → tie.After-take-apart
 parts c = c .before .before .before .before .before
 
-abbrev worked : tie.After-hand-over-arg2 → tie.After-work
+abbrev worked : tie.After-hand-back-arg2 → tie.After-work
 worked c = c .before .before .before .before .before .before .before .before
 
 -- the state in parts is the one in the image
@@ -61,13 +71,12 @@ take-apart-requires c κs = shaped-length _ (passed (fits (rounds c)))
 work-requires : tie.Need-work-requires
 work-requires c κs = search needs
 
-hand-over-requires : tie.Need-hand-over-requires
-hand-over-requires c κs =
+hand-back-requires : tie.Need-hand-back-requires
+hand-back-requires c κs =
     let done = worked c in
-    record {
-      whole = shaped-length _ (passed (fits (rounds (parts (done .before) .before))));
-      made = made-sound _ _ _ _ _ _ _ (done .work .ensures) (tray-makes _ _ _);
-    }
+    let shaped = fits (rounds (parts (done .before) .before)) in
+    let t = now (given (shaped .before .before .before) .args .tray) in
+    answered _ _ t _ _ _ (whole (done .before)) (passed shaped) (done .work .ensures)
 
 no-image-requires : tie.Need-no-image-requires
 no-image-requires c κs = search needs
@@ -86,7 +95,7 @@ returns c =
     let t = now (given (shaped .before .before .before) .args .tray) in
     promise-handed _ _ _ _ _ _ _ (joined _ _ t _ _ _ (whole (done .before)) (done .work .ensures)) _ _ _ _ _
     (shaped-refusal _ _ _ (passed shaped))
-    (handed .hand-over .ensures)
+    (handed .hand-back .ensures)
 
 same-length-3 : tie.Need-same-length-3
 same-length-3 c = search needs
@@ -104,7 +113,7 @@ controller-tray-spec =
     take-rounds-requires
     take-apart-requires
     work-requires
-    hand-over-requires
+    hand-back-requires
     no-image-requires
     same-length
     same-length-2

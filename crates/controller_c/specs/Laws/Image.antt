@@ -17,24 +17,18 @@ use Rattle.wire.specs.Numbers.{listed}
 use Rattle.wire.specs.Words.{Below}
 use Rattle.wire.specs.Laws.Words.{byte-drop}
 use Rattle.wire.specs.declared.frame.Numbers.{Numbers}
-use Rattle.controller.specs.Fields.{wholeOf, stateOf}
 use Rattle.controller.specs.State.{firstRounds, soundList, soundRules, sound}
 use Rattle.controller.specs.Laws.State.{ListTests, sound-list-gives, sound-list-test, rules-give, rules-heard, rules-stored}
 use Rattle.controller.specs.Laws.State.{sound-rules, sound-beside, beside-gives, since-places}
-use Rattle.controller.specs.declared.state.Fields.{Fields}
 use Rattle.controller.specs.declared.state.State.{State}
-use Rattle.controller_c.specs.Image.{imageBytes, heardAt, candidatesAt, echoesAt, sinceAt, reservedAt, countBytes, listWidth, headBytes, listBytes}
+use Rattle.controller_c.specs.Image.{imageBytes, heardAt, candidatesAt, echoesAt, sinceAt, reservedAt, countBytes, listWidth, Sized, headBytes, listBytes}
 use Rattle.controller_c.specs.Image.{zerosFrom, laidOut, placesAt, listAt, roundsAt, takenApart, zeros, shaped, soundImage}
 use Rattle.controller_c.specs.Words.{numberAt, numbersAt}
 use Rattle.controller_c.specs.Laws.Words.{numbers-bytes-length, number-back, numbers-at, numbers-back, number-drop, numbers-drop}
 
 -- ---- lengths
 
--- a list of a sound state: what its count and its places are
-pub record Sized (n : Numbers) : Type 0 where
-  pub few : n .len ≤ maxNumbers
-  pub places : length (n .at) ≡ maxNumbers
-
+-- the lists of a sound state
 list-sized : (n : Numbers) → soundList n ≡ true → Sized n
 list-sized n h = let t = sound-list-gives n h in record { few = omega (arith, t .used, t .list .short); places = t .places }
 
@@ -52,11 +46,6 @@ rules-sized s h =
       candidates = list-sized (s .candidates) (ap (λ (t : State). soundList (t .candidates)) e ∙ sound-list-test (listed (s .candidates)) (g .candidates));
       echoes = list-sized (s .echoes) (ap (λ (t : State). soundList (t .echoes)) e ∙ sound-list-test (listed (s .echoes)) (g .echoes));
     }
-
--- document 01's rules do not read the record
-pub rules-alone : (f : Fields) (h c e p : List ℕ) → soundRules (wholeOf f h c e p) ≡ true → soundRules (stateOf f h c e) ≡ true
-unfolding soundRules
-rules-alone f h c e p t = t
 
 pub list-bytes-length : (n : Numbers) → Sized n → length (listBytes n) ≡ listWidth
 list-bytes-length n z = let p = z .places in omega (arith, numbers-bytes-length (n .at))

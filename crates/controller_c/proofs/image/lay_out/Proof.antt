@@ -12,8 +12,8 @@ use Rattle.controller.specs.Fields.{wholeOf}
 use Rattle.controller.specs.Laws.State.{sound-rules, since-places}
 use Rattle.controller.specs.declared.state.State.{State}
 use Rattle.controller_c.specs.Image.{imageBytes, heardAt, candidatesAt, echoesAt, sinceAt, reservedAt}
-use Rattle.controller_c.specs.Image.{headBytes, listBytes, withLists, zerosFrom, laidOut}
-use Rattle.controller_c.specs.Laws.Image.{SizedLists, rules-sized, rules-alone, list-bytes-length, laid-out-length}
+use Rattle.controller_c.specs.Image.{headBytes, listBytes, withRotation, zerosFrom, laidOut}
+use Rattle.controller_c.specs.Laws.Image.{SizedLists, rules-sized, list-bytes-length, laid-out-length}
 use Rattle.controller_c.proofs.Stores.{join-at, sets-whole}
 use Rattle.controller_c.proofs.image.lay_out.Statement.{statement}
 use Rattle.controller_c.proofs.image.lay_out.Tie as tie
@@ -40,15 +40,18 @@ laid s b z since n =
     ∙ join-at b 0 heardAt (headBytes s) (listBytes (s .heard) ++ first) (omega arith)
     ∙ sets-whole b (laidOut s) (laid-out-length s z since ∙ sym n)
 
--- what was given; the head is stored, then the lists, then the record
+-- what was given; the head is stored, then each list, then the record
 abbrev given : tie.After-put-head → tie.Start
 given c = c .before .before .before
 
-abbrev headed : tie.After-put-lists-arg → tie.After-put-head
+abbrev headed : tie.After-put-list-arg → tie.After-put-head
 headed c = c .before .before .before
 
-abbrev listed : tie.After-put-rounds-arg → tie.After-put-lists
-listed c = c .before .before .before
+abbrev heard : tie.After-put-rotation-arg → tie.After-put-list
+heard c = c .before .before .before
+
+abbrev rotated : tie.After-put-rounds-arg → tie.After-put-rotation
+rotated c = c .before .before .before
 
 abbrev recorded : tie.After-clear-reserved-arg → tie.After-put-rounds
 recorded c = c .before .before .before
@@ -59,14 +62,24 @@ state c =
     let a = c .args in
     wholeOf (a .fields) (now (a .heard)) (now (a .candidates)) (now (a .echoes)) (now (a .since))
 
+lists : (c : tie.Start) → SizedLists (state c)
+lists c = rules-sized (state c) (sound-rules (state c) (c .pre .0))
+
 put-head-requires : tie.Need-put-head-requires
 put-head-requires c κs = search needs
 
-put-lists-requires : tie.Need-put-lists-requires
-put-lists-requires c κs = let start = given (headed c) in (rules-alone _ _ _ _ _ (sound-rules (state start) (start .pre .0)), search needs)
+put-list-requires : tie.Need-put-list-requires
+put-list-requires c κs = (lists (given (headed c)) .heard, search needs)
+
+put-rotation-requires : tie.Need-put-rotation-requires
+put-rotation-requires c κs =
+    let z = lists (given (headed (heard c .before))) in
+    (record { candidates = z .candidates; echoes = z .echoes }, search needs)
 
 put-rounds-requires : tie.Need-put-rounds-requires
-put-rounds-requires c κs = let start = given (headed (listed c .before)) in (since-places (state start) (start .pre .0), search needs)
+put-rounds-requires c κs =
+    let start = given (headed (heard (rotated c .before) .before)) in
+    (since-places (state start) (start .pre .0), search needs)
 
 clear-reserved-requires : tie.Need-clear-reserved-requires
 clear-reserved-requires c κs = search needs
@@ -78,16 +91,26 @@ returns : tie.Need-returns
 returns c =
     let cleared = c .before .before in
     let rounds = recorded (cleared .before) in
-    let lists = listed (rounds .before) in
-    let head = headed (lists .before) in
+    let rotation = rotated (rounds .before) in
+    let list = heard (rotation .before) in
+    let head = headed (list .before) in
     let start = given head in
     let s = state start in
-    let with-lists = lists .put-lists .ensures ∙ ap (withLists s) (head .put-head .ensures) in
+    let with-heard = list .put-list .ensures ∙ ap (λ (l : List ℕ). sets l heardAt (listBytes (s .heard))) (head .put-head .ensures) in
+    let with-lists = rotation .put-rotation .ensures ∙ ap (withRotation s) with-heard in
     let with-rounds = rounds .put-rounds .ensures ∙ ap (λ (l : List ℕ). sets l sinceAt (s .since)) with-lists in
     cleared .clear-reserved .ensures
     ∙ ap (λ (l : List ℕ). sets l reservedAt (zerosFrom reservedAt)) with-rounds
-    ∙ laid s (now (start .args .image)) (rules-sized s (sound-rules s (start .pre .0))) (since-places s (start .pre .0)) (start .pre .1)
+    ∙ laid s (now (start .args .image)) (lists start) (since-places s (start .pre .0)) (start .pre .1)
 
 pub lay-out-spec : {M : Type 1} → statement M
 lay-out-spec =
-    tie.close (tie.spec put-head-requires put-lists-requires put-rounds-requires clear-reserved-requires same-length returns)
+    tie.close
+    (tie.spec
+    put-head-requires
+    put-list-requires
+    put-rotation-requires
+    put-rounds-requires
+    clear-reserved-requires
+    same-length
+    returns)
