@@ -6,9 +6,7 @@
 --                                          stands in front of what stood in the output, and the length is the frame's
 --     StartImagePromise, TrayImagePromise  the promises of controller_start and of controller_tray
 --     fieldOf b x                          the number x of the image b; 0 where a tray would be refused under 1
---     HandsOver a n                        what is known before the answer a of a start is handed over to an image of n bytes
---     HandsBack k a b                      and before that of a tray is to the image b, of which k were heard
---     HandedOver a ..                      what holds after either
+--     HandsOver a n, HandedOver a ..       what is known before the answer a of a call is handed over to an image of n bytes, and what holds after
 use Prim.Native.Nat.{ℕ}
 use mathlib.Core.Bool.{true, cond}
 use mathlib.Core.List.{List, _++_}
@@ -22,7 +20,7 @@ use Rattle.controller.specs.Rules.{next}
 use Rattle.controller.specs.Refusals.{startRefusal, trayRefusal}
 use Rattle.controller.specs.Calls.{sentBytes}
 use Rattle.controller.specs.declared.state.Answer.{Answer}
-use Rattle.controller_c.specs.Image.{imageBytes, laidOut, takenApart, soundImage, LaysOver}
+use Rattle.controller_c.specs.Image.{imageBytes, laidOut, takenApart, soundImage}
 
 -- "start 1 (image length), 9, 3"
 abbrev pub startImageRefusal : ℕ → ℕ → ℕ → ℕ → ℕ
@@ -75,9 +73,6 @@ fieldOf b x = cond (soundImage b) x 0
 pub record HandsOver (a : Answer) (n : ℕ) : Type 0 where
   pub whole : n ≡ imageBytes
   pub made : a .refusal ≡ 0 → sound (a .state) ≡ true
-
-abbrev pub HandsBack : ℕ → Answer → List ℕ → Type 0
-HandsBack k a b = a .refusal ≡ 0 → LaysOver k (a .state) b
 
 pub record HandedOver (a : Answer) (imageBefore : List ℕ) (r : ℕ) (imageAfter : List ℕ) (lengthAfter : ℕ) : Type 0 where
   pub number : r ≡ a .refusal

@@ -8,7 +8,7 @@ ghost use Rattle.wire.specs.Frame.{readRefusal};
 ghost use Rattle.wire.specs.Lent.{before, after};
 ghost use Rattle.controller.specs.Fields.{answerOf};
 ghost use Rattle.controller.specs.State.{firstRounds};
-ghost use Rattle.controller_c.specs.Calls.{StartImagePromise, TrayImagePromise, fieldOf, HandsOver, HandsBack, HandedOver};
+ghost use Rattle.controller_c.specs.Calls.{StartImagePromise, TrayImagePromise, fieldOf, HandsOver, HandedOver};
 ghost use Rattle.controller_c.specs.Image.{echoesAt, soundImage, takenApart};
 ghost use Rattle.controller_c.specs.Words.{numberAt};
 use crate::image::is_shaped;
@@ -58,30 +58,6 @@ fn hand_over(
     if refusal == 0 {
         let fields = worked.fields;
         lay_out(fields, heard, candidates, echoes, since, image);
-    }
-    refusal
-}
-
-// Hands a tray's answer over: what the step changed goes into the image, of which `known` are heard, unless the tray was refused.
-fn hand_back(
-    known: usize,
-    worked: Worked,
-    heard: &[u32; MAX_NUMBERS],
-    candidates: &[u32; MAX_NUMBERS],
-    echoes: &[u32; MAX_NUMBERS],
-    since: &[u8; MAX_NUMBERS],
-    image: &mut [u8],
-    written: &mut usize,
-) -> u8
-    requires { ⌜ HandsBack known (answerOf worked (now heard) (now candidates) (now echoes) (now since)) (now image) ⌝ }
-    ensures { λ r.
-        ⌜ HandedOver (answerOf worked (before heard) (before candidates) (before echoes) (before since)) (before image) r (after image) (after written) ⌝ }
-{
-    *written = worked.length;
-    let refusal = worked.refusal;
-    if refusal == 0 {
-        let fields = worked.fields;
-        lay_over(known, fields, heard, candidates, echoes, since, image);
     }
     refusal
 }
@@ -156,16 +132,20 @@ pub extern "C" fn controller_tray(
             tray,
             out,
         );
-        hand_back(
-            fields.heard,
-            worked,
-            &heard,
-            &candidates,
-            &echoes,
-            &since,
-            image,
-            written,
-        )
+        *written = worked.length;
+        if worked.refusal == 0 {
+            let made = worked.fields;
+            lay_over(
+                fields.heard,
+                made,
+                &heard,
+                &candidates,
+                &echoes,
+                &since,
+                image,
+            );
+        }
+        worked.refusal
     } else {
         no_image(written)
     }

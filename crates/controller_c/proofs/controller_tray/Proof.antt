@@ -1,16 +1,17 @@
 -- `controller_c::controller_tray` meets its contract: an image of the right shape leaves the refusal to the controller's call in place,
 -- whose answer is handed over, and what that leaves out did not change.
 use borrow.Author.Needs.{needs}
+use borrow.Author.Tests.{eq-eqb, ne-eqb}
 use Prim.Native.Nat.{ℕ}
 use mathlib.Core.Bool.{true}
 use mathlib.Core.List.{List}
-use mathlib.Core.Path.{_≡_, sym, ap, _∙_}
+use mathlib.Core.Path.{_≡_, refl, sym, ap, _∙_}
 use denote.Ref.{now}
 use Rattle.controller.specs.Calls.{TrayPromise}
 use Rattle.controller.specs.Fields.{wholeOf}
 use Rattle.controller.specs.declared.state.Answer.{Answer}
 use Rattle.controller.specs.declared.state.State.{State}
-use Rattle.controller_c.specs.Calls.{HandsBack}
+use Rattle.controller_c.specs.Calls.{TrayImagePromise, HandedOver}
 use Rattle.controller_c.specs.Image.{takenApart, shaped, LaysOver}
 use Rattle.controller_c.specs.Laws.Calls.{shaped-refusal, unshaped-refusal}
 use Rattle.controller_c.specs.Laws.Changed.{tray-lays-over}
@@ -19,17 +20,18 @@ use Rattle.controller_c.proofs.Promises.{made, promise-handed, image-re
 use Rattle.controller_c.proofs.controller_tray.Statement.{statement}
 use Rattle.controller_c.proofs.controller_tray.Tie as tie
 
--- what is promised of the state in parts is promised of that in the image
-joined : (s d : State) (t before : List ℕ) (a : Answer) (after : List ℕ) → s ≡ d → TrayPromise s t before a after → TrayPromise d t before a after
-joined s d t before a after e p = rw e at p
+-- the answer a to the state s in parts, which is the one in the image b
+module _ (s : State) (b t before : List ℕ) (a : Answer) (after : List ℕ) (e : s ≡ takenApart b) (h : shaped b ≡ true) (p : TrayPromise s t before a after) where
+  -- what is promised of it is promised of the state in the image
+  joined : TrayPromise (takenApart b) t before a after
+  joined = rw e at p
 
--- what is known of the answer before it is handed over
-answered : (s : State) (b t before : List ℕ) (a : Answer) (after : List ℕ) → s ≡ takenApart b → shaped b ≡ true → TrayPromise s t before a after
-    → HandsBack (s .heard .len) a b
-answered s b t before a after e h p =
-    rw e
-    (made _ _ _ _ _ _ _ (joined s (takenApart b) t before a after e p) (λ (u : State). LaysOver ((takenApart b) .heard .len) u b)
-    (tray-lays-over b t _ h))
+  -- what is known before its changes are laid over the image
+  changed : a .refusal ≡ 0 → LaysOver (s .heard .len) (a .state) b
+  changed = rw e (made _ _ _ _ _ _ _ joined (λ (u : State). LaysOver ((takenApart b) .heard .len) u b) (tray-lays-over b t _ h))
+
+  handed : (r : ℕ) (c : List ℕ) (l : ℕ) → HandedOver a b r c l → TrayImagePromise b t before r c after l
+  handed r c l = promise-handed _ _ _ _ _ _ _ joined _ b r c l (shaped-refusal b t _ h)
 
 -- what was given; a shaped image, its record and its other parts; the call of `work`
 abbrev given : tie.After-slice-known2 → tie.Start
@@ -44,8 +46,12 @@ rounds c = c .before .before .before .before
 abbrev parts : tie.After-work-arg → tie.After-take-apart
 parts c = c .before .before .before .before .before
 
-abbrev worked : tie.After-hand-back-arg2 → tie.After-work
-worked c = c .before .before .before .before .before .before .before .before
+abbrev worked : tie.After-struct-known → tie.After-work
+worked c = c .before .before .before
+
+-- the image is to be written
+abbrev asked : tie.After-lay-over-arg → tie.Then2
+asked c = c .before .before .before .before .before .before
 
 -- the state in parts is the one in the image
 whole : (c : tie.After-work-arg)
@@ -71,12 +77,12 @@ take-apart-requires c κs = shaped-length _ (passed (fits (rounds c)))
 work-requires : tie.Need-work-requires
 work-requires c κs = search needs
 
-hand-back-requires : tie.Need-hand-back-requires
-hand-back-requires c κs =
-    let done = worked c in
+lay-over-requires : tie.Need-lay-over-requires
+lay-over-requires c κs =
+    let done = worked (asked c .before) in
     let shaped = fits (rounds (parts (done .before) .before)) in
     let t = now (given (shaped .before .before .before) .args .tray) in
-    answered _ _ t _ _ _ (whole (done .before)) (passed shaped) (done .work .ensures)
+    changed _ _ t _ _ _ (whole (done .before)) (passed shaped) (done .work .ensures) (asked c .if2 .taken)
 
 no-image-requires : tie.Need-no-image-requires
 no-image-requires c κs = search needs
@@ -89,19 +95,32 @@ same-length-2 c = search needs
 
 returns : tie.Need-returns
 returns c =
-    let handed = c .before .before in
-    let done = worked (handed .before) in
+    let laid = c .before .before in
+    let done = worked (asked (laid .before) .before) in
     let shaped = fits (rounds (parts (done .before) .before)) in
     let t = now (given (shaped .before .before .before) .args .tray) in
-    promise-handed _ _ _ _ _ _ _ (joined _ _ t _ _ _ (whole (done .before)) (done .work .ensures)) _ _ _ _ _
-    (shaped-refusal _ _ _ (passed shaped))
-    (handed .hand-back .ensures)
+    handed _ _ t _ _ _ (whole (done .before)) (passed shaped) (done .work .ensures) _ _ _
+    record { number = refl; image = rw (eq-eqb _ 0 (asked (laid .before) .if2 .taken)) (laid .lay-over .ensures); written = refl }
 
 same-length-3 : tie.Need-same-length-3
 same-length-3 c = search needs
 
+same-length-4 : tie.Need-same-length-4
+same-length-4 c = search needs
+
 returns-2 : tie.Need-returns-2
 returns-2 c =
+    let done = worked (c .before) in
+    let shaped = fits (rounds (parts (done .before) .before)) in
+    let t = now (given (shaped .before .before .before) .args .tray) in
+    handed _ _ t _ _ _ (whole (done .before)) (passed shaped) (done .work .ensures) _ _ _
+    record { number = refl; image = rw (ne-eqb _ 0 (c .if2 .left)); written = refl }
+
+same-length-5 : tie.Need-same-length-5
+same-length-5 c = search needs
+
+returns-3 : tie.Need-returns-3
+returns-3 c =
     image-refused _ _ _ _ _ _ _ (unshaped-refusal _ _ _ (sym (c .before .before .before .is-shaped .ensures) ∙ c .before .before .if1 .left))
     (c .no-image .ensures)
 
@@ -113,10 +132,13 @@ controller-tray-spec =
     take-rounds-requires
     take-apart-requires
     work-requires
-    hand-back-requires
+    lay-over-requires
     no-image-requires
     same-length
     same-length-2
     returns
     same-length-3
-    returns-2)
+    same-length-4
+    returns-2
+    same-length-5
+    returns-3)

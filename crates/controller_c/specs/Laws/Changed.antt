@@ -24,10 +24,11 @@ use Rattle.controller.specs.Laws.Work.Moved.{grown-same, moved-same, moved-reco
 use Rattle.controller.specs.Received.{Received, receive}
 use Rattle.controller.specs.Refusals.{trayRefusal}
 use Rattle.controller.specs.Rules.{next}
-use Rattle.controller.specs.State.{View, view, storedState}
+use Rattle.controller.specs.State.{view, storedState}
 use Rattle.controller.specs.Work.First.{movedTo, Grown}
 use Rattle.controller.specs.declared.state.State.{State}
 use Rattle.controller_c.specs.Image.{takenApart, shaped, soundImage, LaysOver}
+use Rattle.controller_c.specs.Laws.Calls.{tray-makes}
 
 module _ (s : State) (b : List ℕ) (f : Fits s b) where
   abbrev es : List Entry
@@ -50,7 +51,7 @@ module _ (s : State) (b : List ℕ) (f : Fits s b) where
         inside = λ x i. rw made-heard (heard-in (view s) es .1 (inr i));
       }
 
-  pub heard-kept : made .heard .len ≡ s .heard .len → (s .heard ≡ made .heard) × (s .since ≡ made .since)
+  heard-kept : made .heard .len ≡ s .heard .len → (s .heard ≡ made .heard) × (s .since ≡ made .since)
   heard-kept e =
       let same : made .heard ≡ s .heard = grown-same (s .heard) (made .heard) grown (omega arith) in
       let members : received .heard ≡ listed (s .heard) = sym made-heard ∙ ap listed same in
@@ -60,7 +61,7 @@ module _ (s : State) (b : List ℕ) (f : Fits s b) where
       rw members at (moved-recorded s es (f .state) (f .heard)) in
       (sym same, sym stays ∙ moved)
 
-  pub rotation-kept : 3 < kindOf (made .round) → (s .candidates ≡ made .candidates) × (s .echoes ≡ made .echoes)
+  rotation-kept : 3 < kindOf (made .round) → (s .candidates ≡ made .candidates) × (s .echoes ≡ made .echoes)
   rotation-kept l =
       let back = sym (rules-stored s (sound-rules s (f .state))) in
       let kept : (s .candidates ≡ stored (listed (s .candidates))) × (s .echoes ≡ stored (listed (s .echoes))) =
@@ -79,7 +80,7 @@ tray-lays-over b t n h e =
     let f = tray-accepted (takenApart b) t n e .0 in
     record {
       image = rw h (f .state);
-      made = next-stays-sound (takenApart b) t f;
+      made = tray-makes (takenApart b) t n e;
       heard = heard-kept (takenApart b) t f;
       rotation = rotation-kept (takenApart b) t f;
     }

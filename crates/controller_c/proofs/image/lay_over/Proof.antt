@@ -12,7 +12,6 @@ use lib.Dec.{eqb, leb}
 use lib.ListN.{length}
 use lib.Seq.{sets}
 use Rattle.wire.specs.Frame.{kindOf}
-use Rattle.wire.specs.Limits.{maxNumbers}
 use Rattle.wire.specs.Words.{Below}
 use Rattle.controller.specs.Fields.{wholeOf}
 use Rattle.controller.specs.Laws.Lists.{true-or-false}
@@ -20,7 +19,7 @@ use Rattle.controller.specs.Laws.State.{sound-rules, since-places}
 use Rattle.controller.specs.State.{sound}
 use Rattle.controller.specs.declared.state.State.{State}
 use Rattle.controller_c.specs.Image.{imageBytes, heardAt, candidatesAt, echoesAt, sinceAt, reservedAt, listWidth, headBytes, listBytes, zerosFrom, laidOut}
-use Rattle.controller_c.specs.Image.{takenApart, renewedHeard, renewedRotation, LaysOver}
+use Rattle.controller_c.specs.Image.{takenApart, renewedHeard, renewedRotation}
 use Rattle.controller_c.specs.Laws.Image.{SizedLists, rules-sized, list-bytes-length, sound-image-gives, laidOut-takenApart}
 use Rattle.controller_c.proofs.Stores.{sets-behind, sets-over}
 use Rattle.controller_c.proofs.image.lay_over.Statement.{statement}

@@ -1,14 +1,15 @@
 -- `controller_c::image::renew_rotation` meets its contract: it stores exactly in the rounds of a roster and of a value.
-use Prim.Native.Nat.{_≤_, _<_}
 use borrow.Author.Needs.{needs}
 use borrow.Author.Tests.{le-leb, lt-leb}
-use Rattle.wire.specs.Frame.{kindOf}
 use Rattle.controller_c.proofs.image.renew_rotation.Statement.{statement}
 use Rattle.controller_c.proofs.image.renew_rotation.Tie as tie
 
--- the lists are to be stored
-abbrev due : tie.After-slice-known2 → tie.Then1
-due c = c .before .before .before .before
+-- the lists are to be stored, and are
+abbrev due : tie.After-put-rotation → tie.Then1
+due c = c .before .before
+
+abbrev stored : tie.After-slice-known2 → tie.After-put-rotation
+stored c = c .before .before
 
 kind-of-requires : tie.Need-kind-of-requires
 kind-of-requires c κs = search needs
@@ -21,8 +22,8 @@ same-length c = search needs
 
 returns : tie.Need-returns
 returns c =
-    let kind = due c .before .kind-of .ensures in
-    rw (le-leb _ 3 (rw kind at (due c .if1 .taken))) (c .before .before .put-rotation .ensures)
+    let asked = due (stored c) in
+    rw (le-leb _ 3 (rw (asked .before .kind-of .ensures) at (asked .if1 .taken))) (stored c .put-rotation .ensures)
 
 returns-2 : tie.Need-returns-2
 returns-2 c = rw (lt-leb _ 3 (rw (c .before .kind-of .ensures) at (c .if1 .left)))
