@@ -168,25 +168,25 @@ pub(crate) struct Counts {
     pub ones: usize,
 }
 
-// The bit received with a note in a round whose frames list nothing, as `received_bit` has it where that is 0 or 1. Such a frame is eight bytes: those of
-// the one that says 0, of the one that says 1, or any others.
-fn short_bit(zero: u64, one: u64, absent: u8, tray: &[u8], note: u32) -> u8
-    ensures { λ r. ⌜ ((t : ℕ) → Short t → zero ≡ headOf t 0 → one ≡ headOf t 1 → Votes t absent (before tray) note r) ⌝ }
+// The header received with a note in a round whose frames list nothing, as one number: `own` where there is no entry, 0 where there is not one frame of eight
+// bytes. Such a frame is the one that says 0, the one that says 1, or neither of them.
+fn short_head(own: u64, tray: &[u8], note: u32) -> u64
+    ensures { λ r. ⌜ ((t d : ℕ) → Short t → own ≡ headOf t d → Votes t d (before tray) note r) ⌝ }
 {
     if note == NO_FRAME {
-        return absent;
+        return own;
     }
     if note as usize % 65536 != FRAME_HEADER {
-        return NOTHING_SAID;
+        return 0;
     }
-    let head = read_head(tray, note as usize / 65536);
-    if head == zero {
-        0
-    } else if head == one {
-        1
-    } else {
-        NOTHING_SAID
-    }
+    read_head(tray, note as usize / 65536)
+}
+
+// 1 where two headers are the same, else 0.
+fn one_if_head(head: u64, other: u64) -> usize
+    ensures { λ r. ⌜ r ≡ cond (eqb head other) 1 0 ⌝ }
+{
+    if head == other { 1 } else { 0 }
 }
 
 // Counts the values or the proposals of the round, bit by bit. Who has no entry, oneself or one that is silent, says what oneself says.
@@ -195,15 +195,16 @@ pub(crate) fn count_bits(fields: Fields, tray: &[u8], notes: &[u32; MAX_NUMBERS]
     ensures { λ r. ⌜ CountsFew (fields .heard) r
         × AnyReady fields tray notes (λ s b. Short (s .round) → CountsBits (kindOf (s .round)) (receivedBy s b) r) ⌝ }
 {
+    let own = head_of(fields.round, fields.said);
     let zero = head_of(fields.round, 0);
     let one = head_of(fields.round, 1);
     let mut zeros = 0;
     let mut ones = 0;
     let mut j = 0;
     while j < fields.heard {
-        let bit = short_bit(zero, one, fields.said, tray, notes[j]);
-        zeros += one_if(bit, 0);
-        ones += one_if(bit, 1);
+        let head = short_head(own, tray, notes[j]);
+        zeros += one_if_head(head, zero);
+        ones += one_if_head(head, one);
         j += 1;
     }
     Counts { zeros, ones }

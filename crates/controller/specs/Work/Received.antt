@@ -10,7 +10,7 @@
 --     WhereReady f h b t P     P holds of each state with the fields f, where h are those heard, and of the tray b, if it is ready
 --     AnyReady f b t P         the same, whoever is heard
 --     bitUnder t d b k         the bit of the frame that the note k is of, read in round t; d where it is of none, 3 where it is of a void frame or of several
---     Votes t d b k r          r is that bit where it is 0 or 1, and neither of them where it is not
+--     Votes t d b k r          r is the header of a frame of round t that says that bit, where it is 0 or 1, and of neither such frame where it is not
 --     CountsBits k r n         n has how many of those heard sent each bit in a frame of kind k, where r was received
 --     CountsFew h n            neither count is above h
 --     sentCount f              how many numbers the own frame lists
@@ -27,6 +27,7 @@ use Rattle.wire.specs.Found.{Under, meaning, found}
 use Rattle.wire.specs.Notes.{noFrame, foundBy}
 use Rattle.wire.specs.Tray.{wellFormed, entries}
 use Rattle.wire.specs.Frame.{kindOf, maxCount, bitIn}
+use Rattle.wire.specs.Heads.{headOf}
 use Rattle.wire.specs.declared.frame.Numbers.{Numbers}
 use Rattle.controller.specs.Fields.{Lent, stateOf}
 use Rattle.controller.specs.Lists.{In, mem, insertAll}
@@ -67,7 +68,7 @@ abbrev pub bitUnder : ℕ → ℕ → List ℕ → ℕ → ℕ
 bitUnder round absent b k = cond (eqb k noFrame) absent (bitIn (readIn round (noted b k)))
 
 abbrev pub Votes : ℕ → ℕ → List ℕ → ℕ → ℕ → Type 0
-Votes round absent b k r = (bit : ℕ) → bit < 2 → eqb r bit ≡ eqb (bitUnder round absent b k) bit
+Votes round absent b k r = (bit : ℕ) → bit < 2 → eqb r (headOf round bit) ≡ eqb (bitUnder round absent b k) bit
 
 pub record CountsBits (k : ℕ) (r : Received) (n : Counts) : Type 0 where
   pub zeros : n .zeros ≡ count (says k 0) r

@@ -16,7 +16,7 @@ use Rattle.controller.specs.Received.{says}
 use Rattle.controller.specs.Work.Received.{receivedBy, Ready, Votes}
 use Rattle.controller.specs.declared.state.State.{State}
 use Rattle.wire.specs.Frame.{kindOf}
-use Rattle.wire.specs.Heads.{Short}
+use Rattle.wire.specs.Heads.{Short, headOf}
 use Rattle.wire.specs.Limits.{maxNumbers}
 use Rattle.wire.specs.Numbers.{listed}
 use Rattle.controller.proofs.received.count_bits.Statement.{statement}
@@ -31,11 +31,11 @@ abbrev total : State → List ℕ → ℕ → ℕ → ℕ
 total s b bit j = countIf (counted s b bit) (take j (listed (s .heard)))
 
 module _ {s : State} {b f : List ℕ} (ready : Ready s b f) (bit j n : ℕ) (sum : n ≡ total s b bit j) where
-  -- one turn: the bit d that is read at place j, counted
-  turn : (d one : ℕ) → bit < 2 → j < s .heard .len → Short (s .round)
-      → Votes (s .round) (s .said) b (getD f j 0) d → one ≡ cond (eqb d bit) 1 0
+  -- one turn: the header that is read at place j, counted
+  turn : (head one : ℕ) → bit < 2 → j < s .heard .len → Short (s .round)
+      → Votes (s .round) (s .said) b (getD f j 0) head → one ≡ cond (eqb head (headOf (s .round) bit)) 1 0
       → n + one ≡ total s b bit (j + 1)
-  turn d one l h short read asked =
+  turn head one l h short read asked =
       let more : one ≡ cond (counted s b bit (getD (listed (s .heard)) j 0)) 1 0 =
       asked ∙ ap (λ (t : Bool). cond t 1 0) (read bit l ∙ ready-says ready j bit h (omega arith) (λ e. omega (arith, short .most))) in
       rw (sum, more) (sym (count-further (counted s b bit) (listed (s .heard)) j (omega (arith, h, ready-used ready))))
@@ -45,7 +45,7 @@ module _ {s : State} {b f : List ℕ} (ready : Ready s b f) (bit j n : ℕ) (sum
   ended h = sum ∙ ap (countIf (counted s b bit)) (take-all j (listed (s .heard)) (omega (arith, h, ready-used ready)) ∙ ready-listed ready)
 
 abbrev Inv-loop : tie.InvT-loop
-Inv-loop fields tray notes zero one zeros₀ ones₀ j₀ zeros ones j =
+Inv-loop fields tray notes own zero one zeros₀ ones₀ j₀ zeros ones j =
     (j ≤ fields .heard)
     × (zeros ≤ j)
     × (ones ≤ j)
@@ -53,23 +53,27 @@ Inv-loop fields tray notes zero one zeros₀ ones₀ j₀ zeros ones j =
     → (zeros ≡ total (stateOf fields h c e) tray 0 j) × (ones ≡ total (stateOf fields h c e) tray 1 j))
 
 abbrev μ-loop : tie.MeasureT-loop
-μ-loop fields tray notes zero one zeros₀ ones₀ j₀ zeros ones j = fields .heard - j
+μ-loop fields tray notes own zero one zeros₀ ones₀ j₀ zeros ones j = fields .heard - j
 
-one-most : (d bit : ℕ) → cond (eqb d bit) 1 0 ≤ 1
-one-most d bit = pick (eqb d bit)
+one-most : (head other : ℕ) → cond (eqb head other) 1 0 ≤ 1
+one-most head other = pick (eqb head other)
   where
     pick : (t : Bool) → cond t 1 0 ≤ 1
     pick true = omega arith
     pick false = omega arith
 
--- what was given, and the turn in which a bit is received
-abbrev heads : tie.At-loop Inv-loop μ-loop → tie.After-head-of2 Inv-loop μ-loop
+-- a header counted is one of the round's
+of-round : (one head other is : ℕ) → one ≡ cond (eqb head other) 1 0 → other ≡ is → one ≡ cond (eqb head is) 1 0
+of-round one head other is h e = rw e at h
+
+-- what was given, and the turn in which a header is received
+abbrev heads : tie.At-loop Inv-loop μ-loop → tie.After-head-of3 Inv-loop μ-loop
 heads c = c .before
 
 abbrev given : tie.At-loop Inv-loop μ-loop → tie.Start Inv-loop μ-loop
-given c = heads c .before .before .before
+given c = heads c .before .before .before .before
 
-abbrev in-turn : tie.After-short-bit Inv-loop μ-loop → tie.Then1 Inv-loop μ-loop
+abbrev in-turn : tie.After-short-head Inv-loop μ-loop → tie.Then1 Inv-loop μ-loop
 in-turn c = c .before .before
 
 -- a place of the list is one of 64
@@ -82,33 +86,38 @@ head-of-requires c κs = search needs
 head-of-requires-2 : tie.Need-head-of-requires-2 Inv-loop μ-loop
 head-of-requires-2 c κs = search needs
 
+head-of-requires-3 : tie.Need-head-of-requires-3 Inv-loop μ-loop
+head-of-requires-3 c κs = search needs
+
 loop-holds : tie.Need-loop-holds Inv-loop μ-loop
 loop-holds c = (omega arith, omega arith, omega arith, λ h x e ready short. (refl, refl))
 
-mul-short-bit : tie.Need-mul-short-bit Inv-loop μ-loop
-mul-short-bit c = omega (arith, inside c)
+mul-short-head : tie.Need-mul-short-head Inv-loop μ-loop
+mul-short-head c = omega (arith, inside c)
 
-element-copy-out-short-bit : tie.Need-element-copy-out-short-bit Inv-loop μ-loop
-element-copy-out-short-bit c = omega (arith, inside c)
+element-copy-out-short-head : tie.Need-element-copy-out-short-head Inv-loop μ-loop
+element-copy-out-short-head c = omega (arith, inside c)
 
-short-bit-requires : tie.Need-short-bit-requires Inv-loop μ-loop
-short-bit-requires c κs = search needs
+short-head-requires : tie.Need-short-head-requires Inv-loop μ-loop
+short-head-requires c κs = search needs
 
-one-if-requires : tie.Need-one-if-requires Inv-loop μ-loop
-one-if-requires c κs = search needs
+one-if-head-requires : tie.Need-one-if-head-requires Inv-loop μ-loop
+one-if-head-requires c κs = search needs
 
 add-zeros : tie.Need-add-zeros Inv-loop μ-loop
 add-zeros c =
-    let v = in-turn (c .before) .before .before .loop in
-    omega (arith, inside (in-turn (c .before)), v .inv .1, c .one-if .ensures, one-most (c .before .short-bit .result) 0)
+    let at-loop = in-turn (c .before) .before .before in
+    let one = one-most (c .before .short-head .result) (heads at-loop .before .head-of2 .result) in
+    omega (arith, inside (in-turn (c .before)), at-loop .loop .inv .1, c .one-if-head .ensures, one)
 
-one-if-requires-2 : tie.Need-one-if-requires-2 Inv-loop μ-loop
-one-if-requires-2 c κs = search needs
+one-if-head-requires-2 : tie.Need-one-if-head-requires-2 Inv-loop μ-loop
+one-if-head-requires-2 c κs = search needs
 
 add-ones : tie.Need-add-ones Inv-loop μ-loop
 add-ones c =
-    let v = in-turn (c .before .before) .before .before .loop in
-    omega (arith, inside (in-turn (c .before .before)), v .inv .2, c .one-if2 .ensures, one-most (c .before .before .short-bit .result) 1)
+    let at-loop = in-turn (c .before .before) .before .before in
+    let one = one-most (c .before .before .short-head .result) (heads at-loop .head-of3 .result) in
+    omega (arith, inside (in-turn (c .before .before)), at-loop .loop .inv .2, c .one-if-head2 .ensures, one)
 
 add-j : tie.Need-add-j Inv-loop μ-loop
 add-j c = omega (arith, inside (in-turn (c .before .before)))
@@ -121,16 +130,18 @@ loop-again c =
     let at-loop = in-turn (c .before .before) .before .before in
     let v = at-loop .loop in
     let h = in-turn (c .before .before) .if1 .taken in
-    let bit = c .before .before .short-bit in
+    let head = c .before .before .short-head in
     let made = heads at-loop in (
       omega (arith, h),
-      omega (arith, v .inv .1, c .before .one-if .ensures, one-most (bit .result) 0),
-      omega (arith, v .inv .2, c .one-if2 .ensures, one-most (bit .result) 1),
+      omega (arith, v .inv .1, c .before .one-if-head .ensures, one-most (head .result) (made .before .head-of2 .result)),
+      omega (arith, v .inv .2, c .one-if-head2 .ensures, one-most (head .result) (made .head-of3 .result)),
       λ heard x e ready short.
           let so-far = v .inv .3 heard x e ready short in
-          let said = bit .ensures _ short (made .before .head-of .ensures) (made .head-of2 .ensures) in (
-            turn ready 0 (v .j) (v .zeros) (so-far .0) _ _ (omega arith) h short said (c .before .one-if .ensures),
-            turn ready 1 (v .j) (v .ones) (so-far .1) _ _ (omega arith) h short said (c .one-if2 .ensures),
+          let zero = of-round _ (head .result) _ _ (c .before .one-if-head .ensures) (made .before .head-of2 .ensures) in
+          let one = of-round _ (head .result) _ _ (c .one-if-head2 .ensures) (made .head-of3 .ensures) in
+          let said = head .ensures _ _ short (made .before .before .head-of .ensures) in (
+            turn ready 0 (v .j) (v .zeros) (so-far .0) _ _ (omega arith) h short said zero,
+            turn ready 1 (v .j) (v .ones) (so-far .1) _ _ (omega arith) h short said one,
           ),
     )
 
@@ -154,13 +165,14 @@ count-bits-spec =
     μ-loop
     head-of-requires
     head-of-requires-2
+    head-of-requires-3
     loop-holds
-    mul-short-bit
-    element-copy-out-short-bit
-    short-bit-requires
-    one-if-requires
+    mul-short-head
+    element-copy-out-short-head
+    short-head-requires
+    one-if-head-requires
     add-zeros
-    one-if-requires-2
+    one-if-head-requires-2
     add-ones
     add-j
     loop-less
