@@ -231,7 +231,7 @@ pub(crate) fn lay_out(
 
 // ---- from a state to the image of the one before it
 
-// Those heard, with the record beside them: where they are as many as before they are the same, and nothing is stored.
+// Those heard, with the record beside them. Nobody is ever dropped, so where they are still `known` in number they are the same, and so is the record.
 fn renew_heard(
     image: &mut [u8],
     known: usize,
@@ -249,7 +249,7 @@ fn renew_heard(
     }
 }
 
-// Candidates and echoes, which only the making of a roster and of a value change.
+// Candidates and echoes, which a step changes only where it makes a roster or a value.
 fn renew_rotation(
     image: &mut [u8],
     fields: Fields,
@@ -264,7 +264,8 @@ fn renew_rotation(
     }
 }
 
-// What a step changed, from the state that it made, in parts, over the image of the state before it, of which `known` are heard.
+// Makes the image of the state before a step, in which `known` are heard, that of the state made, which is given in parts. A list that the step left as
+// it was is not stored again, nor are the reserved bytes, which are 0 already: most steps change the head alone.
 pub(crate) fn lay_over(
     known: usize,
     fields: Fields,

@@ -134,16 +134,9 @@ pub extern "C" fn controller_tray(
         );
         *written = worked.length;
         if worked.refusal == 0 {
+            let known = fields.heard;
             let made = worked.fields;
-            lay_over(
-                fields.heard,
-                made,
-                &heard,
-                &candidates,
-                &echoes,
-                &since,
-                image,
-            );
+            lay_over(known, made, &heard, &candidates, &echoes, &since, image);
         }
         worked.refusal
     } else {
