@@ -1,6 +1,6 @@
 -- The image of a state, 1,024 bytes that a host keeps: the page docs/IMAGE.md, and document 01, "A controller's state", with document 02's A8.
 --     imageBytes, ownAt, ..     the image's length and the offsets of its fields
---     Sized n                   the list n has a count that fits, and its 64 places; SizedRotation f c e, so have candidates and echoes
+--     Sized n                   the list n has a count that fits, and its 64 places; SizedRotation f c e, so have candidates and echoes in parts
 --     listBytes n               a list's 260 bytes: its count, then its 64 places
 --     zerosFrom at              as many zeros as an image has bytes from at on
 --     laidOut s                 the bytes of the state s

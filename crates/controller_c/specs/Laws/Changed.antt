@@ -1,6 +1,6 @@
 -- Laws of what a step changes: it leaves those parts of the state as they were that a tray's call does not store.
 --     heard-kept         where no more are heard than before, they are the same ones, and the record beside them is the same
---     rotation-kept      only the making of a roster and of a value change candidates and echoes
+--     rotation-kept      candidates and echoes are the same, but where a roster or a value is made
 --     tray-lays-over     so the changes of a step that is not refused can be stored over the image of the state before
 use Prim.Native.Nat.{ℕ, _+_, _<_}
 use mathlib.Core.Bool.{true}
@@ -30,6 +30,7 @@ use Rattle.controller.specs.declared.state.State.{State}
 use Rattle.controller_c.specs.Image.{takenApart, shaped, soundImage, LaysOver}
 use Rattle.controller_c.specs.Laws.Calls.{tray-makes}
 
+-- the step of the state s with the tray b, which fits
 module _ (s : State) (b : List ℕ) (f : Fits s b) where
   abbrev es : List Entry
   es = entries b
@@ -43,6 +44,7 @@ module _ (s : State) (b : List ℕ) (f : Fits s b) where
   made-heard : listed (made .heard) ≡ received .heard
   made-heard = listed-stored _ ∙ step-heard (view s) received
 
+  -- nobody is dropped
   grown : Grown (s .heard) (made .heard)
   grown =
       record {
