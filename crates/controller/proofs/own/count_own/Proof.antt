@@ -38,7 +38,10 @@ returns c =
     let shares = c .count-list .ensures in
     record {
       few = shares .few;
-      agrees = λ h d ready. rw (sub-zero (at .write-own .result), at .write-own .ensures .own h d (ready .sound) (ready .active)) at (shares .agrees (f .round));
+      agrees =
+          λ h d ready.
+          let own = at .write-own .ensures .own h d (ready .sound) (ready .active) in
+          rw (sub-zero (at .write-own .result), own) at (shares .agrees (f .round));
     }
 
 pub count-own-spec : {M : Type 1} → statement M

@@ -1,12 +1,11 @@
 -- `controller::tally::settle_all` meets its contract: each turn settles the least number left, so that all are settled when the lists have ended.
 use Prim.Native.Nat.{ℕ, _+_, _-_, _/_, _≤_}
-use mathlib.Core.Bool.{true≢false}
 use mathlib.Core.List.{List}
-use mathlib.Core.Path.{sym, _∙_}
+use mathlib.Core.Path.{sym}
 use native.Mathlib.Omega.{arith}
 use denote.Ref.{now}
 use lib.ListN.{getD, take}
-use Rattle.controller.specs.Laws.Work.Walk.{settles-none, Walking, walking-on, walking-end}
+use Rattle.controller.specs.Laws.Work.Walk.{settles-none, settles-crowd, Walking, walking-on, walking-end}
 use Rattle.controller.specs.Laws.Work.Weights.{weighed-most, weighed-positive}
 use Rattle.controller.specs.Work.Opened.{endMark, weighed}
 use Rattle.controller.specs.Work.Tally.{SettlesOn}
@@ -180,11 +179,8 @@ same-length-3 c =
 
 returns : tie.Need-returns Inv-loop μ-loop
 returns c =
-    record {
-      echoes = λ fits. absurd (true≢false (sym fits ∙ c .if1 .left));
-      candidates = λ fits. absurd (true≢false (sym fits ∙ c .if1 .left));
-      crowded = settles (c .before) .crowded;
-    }
+    let s = start (turn (passed (c .before)) .before) in
+    settles-crowd (count s) (s .args .h) (list s) _ (settles (c .before)) (c .if1 .left)
 
 same-length-4 : tie.Need-same-length-4 Inv-loop μ-loop
 same-length-4 c = omega (arith, c .before .loop .inv .room .tree, start (c .before) .pre .1 .tree)

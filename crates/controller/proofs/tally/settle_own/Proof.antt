@@ -1,8 +1,8 @@
 -- `controller::tally::settle_own` meets its contract: each turn settles the least number left of a rising list.
 use Prim.Native.Nat.{ℕ, _+_, _-_, _≤_, _<_}
-use mathlib.Core.Bool.{true≢false, cond}
+use mathlib.Core.Bool.{cond}
 use mathlib.Core.List.{List}
-use mathlib.Core.Path.{_≡_, sym, _∙_}
+use mathlib.Core.Path.{_≡_, sym}
 use native.Mathlib.Omega.{arith}
 use borrow.Author.Needs.{needs}
 use denote.Ref.{now}
@@ -10,7 +10,7 @@ use lib.ListN.{length, getD, take}
 use lib.Seq.{getD-take, length-take-le}
 use Rattle.controller.specs.Laws.Lists.{in-mem, getD-in}
 use Rattle.controller.specs.Laws.Work.Own.{Passed, passed-none, passed-next, passed-on, passed-all}
-use Rattle.controller.specs.Laws.Work.Walk.{settles-none}
+use Rattle.controller.specs.Laws.Work.Walk.{settles-none, settles-crowd}
 use Rattle.controller.specs.Lists.{In, mem}
 use Rattle.controller.specs.Work.Tally.{Settles, SettlesOn}
 use Rattle.controller.proofs.tally.settle_own.Statement.{statement}
@@ -114,11 +114,8 @@ loop-again c =
 
 returns : tie.Need-returns Inv-loop μ-loop
 returns c =
-    record {
-      echoes = λ fits. absurd (true≢false (sym fits ∙ c .if1 .left));
-      candidates = λ fits. absurd (true≢false (sym fits ∙ c .if1 .left));
-      crowded = settles (c .before) .crowded;
-    }
+    let s = given (turn (c .before) .before) in
+    settles-crowd (count s) (s .args .h) (known s) _ (settles (c .before)) (c .if1 .left)
 
 returns-2 : tie.Need-returns-2 Inv-loop μ-loop
 returns-2 c =

@@ -16,7 +16,7 @@ use Rattle.controller.specs.Work.Lists.{below}
 use Rattle.controller.specs.Thirds.{third, twoThirds}
 use Rattle.controller.specs.Work.Opened.{endMark, openList, Opens, weighed}
 use Rattle.controller.specs.Work.Heads.{slots, Standing, Ordered, Roomy}
-use Rattle.controller.specs.Work.Tally.{Settles, Sorts}
+use Rattle.controller.specs.Work.Tally.{Settles, SettlesOn, Sorts}
 use Rattle.controller.specs.Laws.Lists.{count-none}
 use Rattle.controller.specs.Laws.Work.Settle.{holds-other, below-later}
 use Rattle.controller.specs.Laws.State.{sound-list-test}
@@ -64,6 +64,14 @@ module _ (v : ℕ → ℕ) (h : ℕ) (c : List ℕ) (pos : 0 < h) where
         ]);
     crowded = λ t. absurd (true≢false (sym (g .fits) ∙ t));
   }
+
+-- where there are too many, that is all that is told
+pub settles-crowd : (v : ℕ → ℕ) (h : ℕ) (c : List ℕ) (x : ℕ) {e k : List ℕ} {r : Settled} → SettlesOn v h c x e k r → r .fits ≡ false → Sorts v h c e k r
+settles-crowd v h c x g out = record {
+  echoes = λ fits. absurd (true≢false (sym fits ∙ out));
+  candidates = λ fits. absurd (true≢false (sym fits ∙ out));
+  crowded = g .crowded;
+}
 
 -- before the walk nothing is echoed, and the candidates are those that were
 pub settles-none : (v : ℕ → ℕ) (h n : ℕ) (e k : List ℕ) → e ≡ (stored []) .at → soundList (record { len = n; at = k }) ≡ true
