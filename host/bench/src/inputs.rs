@@ -1,6 +1,6 @@
 //! What is timed: a state with a tray for it, or a whole run's trays.
 
-use checks::calls::{Calls, Engine, Reference};
+use checks::calls::{Calls, Engine, InPlace, Reference};
 use checks::fields::{Fields, IMAGE_LEN};
 use checks::packing::{frame, pack, Entry, MAX_ENTRIES, MAX_TRAY, NONE};
 use checks::random::Random;
@@ -87,14 +87,21 @@ impl Input {
         answer
     }
 
-    /// Both work the input, and come to the same.
+    /// All three work the input, and come to the same.
     pub fn check(&self) {
-        let (mut engine, mut reference) = (Lent::new(), Lent::new());
-        assert_eq!(self.work::<Engine>(&mut engine), 0);
-        assert_eq!(self.work::<Reference>(&mut reference), 0);
-        assert_eq!(engine.image, reference.image);
-        assert_eq!(engine.out, reference.out);
-        assert_eq!(engine.length, reference.length);
+        let reference = self.worked::<Reference>();
+        for other in [self.worked::<Engine>(), self.worked::<InPlace>()] {
+            assert_eq!(other.image, reference.image);
+            assert_eq!(other.out, reference.out);
+            assert_eq!(other.length, reference.length);
+        }
+    }
+
+    /// What the calls leave; no tray is refused.
+    fn worked<C: Calls>(&self) -> Lent {
+        let mut lent = Lent::new();
+        assert_eq!(self.work::<C>(&mut lent), 0);
+        lent
     }
 
     pub fn bytes(&self) -> usize {

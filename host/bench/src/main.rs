@@ -1,12 +1,12 @@
 //! The benchmark: `cargo run --release -p bench` prints tables in Markdown.
 //!
-//! It times the compiled engine through its C calls, the reference through the
-//! same calls on the same image bytes, and, as a floor, one pass over the tray's
-//! bytes word by word. Each timed call starts from the same image: copying it in
-//! costs both the same. Batches of the three take turns, so that a noisy machine
-//! hits all of them, and the medians are printed. A second table has the pass beside
-//! a plain sum, and a third compares the order of work that request A3 asks for with
-//! the one that it names.
+//! It times the compiled engine through its C calls, the reference and the one that
+//! works in the image through the same calls on the same image bytes, and, as a floor,
+//! one pass over the tray's bytes word by word. Each timed call starts from the same
+//! image: copying it in costs all the same. Batches of the four take turns, so that a
+//! noisy machine hits all of them, and the medians are printed. A second table has the
+//! pass beside a plain sum, and a third compares the order of work that request A3 asks
+//! for with the one that it names.
 
 #![forbid(unsafe_code)]
 
@@ -23,18 +23,18 @@ use measure::{compare, measure, passes, Times};
 fn main() {
     println!("Time per call (for a whole run, per run of one controller) in ns.\n");
     println!(
-        "| input | n | bytes | engine | reference | pass | engine / reference \
-         | engine / pass | engine, to n = {} | reference, to n = {} |",
-        SIZES[0], SIZES[0]
+        "| input | n | bytes | engine | reference | in place | pass | engine / reference \
+         | engine / in place | engine / pass | engine, to n = {} |",
+        SIZES[0]
     );
-    println!("|---|--:|--:|--:|--:|--:|--:|--:|--:|--:|");
+    println!("|---|--:|--:|--:|--:|--:|--:|--:|--:|--:|--:|");
     for (name, make) in inputs::ALL {
         let mut smallest = None;
         for size in SIZES {
             let input = make(size);
             input.check();
             let times = measure(&input);
-            let base = *smallest.get_or_insert(times);
+            let base = *smallest.get_or_insert(times.engine);
             print_row(name, size, &input, times, base);
         }
     }
@@ -79,16 +79,18 @@ fn print_comparison() {
     }
 }
 
-fn print_row(name: &str, size: usize, input: &Input, times: Times, smallest: Times) {
+/// The last column has the engine's time against that for the smallest network.
+fn print_row(name: &str, size: usize, input: &Input, times: Times, smallest: f64) {
     println!(
-        "| {name} | {size} | {} | {:.0} | {:.0} | {:.0} | {:.2} | {:.1} | {:.1} | {:.1} |",
+        "| {name} | {size} | {} | {:.0} | {:.0} | {:.0} | {:.0} | {:.2} | {:.2} | {:.1} | {:.1} |",
         input.bytes(),
         times.engine,
         times.reference,
+        times.in_place,
         times.pass,
         times.engine_to_reference,
+        times.engine_to_in_place,
         times.engine_to_pass,
-        times.engine / smallest.engine,
-        times.reference / smallest.reference,
+        times.engine / smallest,
     );
 }

@@ -3,7 +3,7 @@
 use std::hint::black_box;
 use std::time::{Duration, Instant};
 
-use checks::calls::{Engine, Reference};
+use checks::calls::{Engine, InPlace, Reference};
 
 use crate::inputs::{Input, Lent};
 
@@ -18,23 +18,28 @@ const BATCH_TIME: Duration = Duration::from_micros(200);
 pub struct Times {
     pub engine: f64,
     pub reference: f64,
+    pub in_place: f64,
     pub pass: f64,
     pub engine_to_reference: f64,
+    pub engine_to_in_place: f64,
     pub engine_to_pass: f64,
 }
 
 pub fn measure(input: &Input) -> Times {
-    let (mut first, mut second) = (Lent::new(), Lent::new());
-    let [engine, reference, pass] = take_turns([
+    let (mut first, mut second, mut third) = (Lent::new(), Lent::new(), Lent::new());
+    let [engine, reference, in_place, pass] = take_turns([
         &mut || u64::from(black_box(input).work::<Engine>(&mut first)),
         &mut || u64::from(black_box(input).work::<Reference>(&mut second)),
+        &mut || u64::from(black_box(input).work::<InPlace>(&mut third)),
         &mut || black_box(input).trays.iter().map(|tray| pass(tray)).sum(),
     ]);
     Times {
         engine_to_reference: median(ratios(&engine, &reference)),
+        engine_to_in_place: median(ratios(&engine, &in_place)),
         engine_to_pass: median(ratios(&engine, &pass)),
         engine: median(engine),
         reference: median(reference),
+        in_place: median(in_place),
         pass: median(pass),
     }
 }
@@ -78,7 +83,7 @@ pub fn compare(input: &Input, mut other: impl FnMut() -> u64) -> (f64, f64, f64)
 
 /// The times of each call, in batches that take turns.
 fn take_turns<const N: usize>(mut calls: [&mut dyn FnMut() -> u64; N]) -> [Vec<f64>; N] {
-    let counts = calls.each_mut().map(|call| calls_in_a_batch(call));
+    let counts = calls.each_mut().map(calls_in_a_batch);
     let mut times = [const { Vec::new() }; N];
     for _ in 0..BATCHES {
         for ((call, count), times) in calls.iter_mut().zip(counts).zip(&mut times) {

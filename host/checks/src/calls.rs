@@ -1,6 +1,9 @@
-//! The calls of `include/controller.h`, for the engine and for the reference.
+//! The calls of `include/controller.h`, for the engine and for the two in plain Rust.
 
 pub trait Calls {
+    /// What they are called where a comparison fails.
+    const NAME: &'static str;
+
     fn start(number: u32, bit: u8, image: &mut [u8], out: &mut [u8], length: &mut usize) -> u8;
     fn tray(image: &mut [u8], tray: &[u8], out: &mut [u8], length: &mut usize) -> u8;
     fn frame(bytes: &[u8], round: u32) -> u8;
@@ -24,9 +27,14 @@ pub struct Engine;
 /// The reference.
 pub struct Reference;
 
+/// The one that works in the image, for speed.
+pub struct InPlace;
+
 macro_rules! calls_of {
     ($name:ty, $package:ident) => {
         impl Calls for $name {
+            const NAME: &'static str = stringify!($package);
+
             fn start(n: u32, bit: u8, image: &mut [u8], out: &mut [u8], len: &mut usize) -> u8 {
                 $package::start(n, bit, image, out, len)
             }
@@ -62,3 +70,4 @@ macro_rules! calls_of {
 
 calls_of!(Engine, engine);
 calls_of!(Reference, reference);
+calls_of!(InPlace, inplace);

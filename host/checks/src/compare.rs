@@ -1,6 +1,7 @@
-//! One call on the engine and on the reference, and the first difference.
+//! One call on the reference, on the engine and on the one that works in the image, and the
+//! first difference.
 
-use crate::calls::{Calls, Engine, Reference};
+use crate::calls::{Calls, Engine, InPlace, Reference};
 use crate::copies::{self, copies};
 use crate::edges::{self, edges};
 use crate::fields::{Fields, IMAGE_LEN};
@@ -101,11 +102,15 @@ pub fn case(seed: u64, counts: &mut Histogram) -> Result<(), String> {
     Ok(())
 }
 
-/// Whether an image is sound as it was made to be: the engine shows its round.
+/// Whether an image is sound as it was made to be: both tested ones show its round.
 fn expect_sound(sound: bool, image: &[u8], what: &str) -> Result<(), String> {
-    match (Engine::answers(image)[1] != 0) == sound {
-        true => Ok(()),
-        false => Err(format!("{what}: engine takes it as sound: {}", !sound)),
+    let rounds = [
+        (Engine::NAME, Engine::answers(image)[1]),
+        (InPlace::NAME, InPlace::answers(image)[1]),
+    ];
+    match rounds.into_iter().find(|&(_, round)| (round != 0) != sound) {
+        None => Ok(()),
+        Some((name, _)) => Err(format!("{what}: {name} takes it as sound: {}", !sound)),
     }
 }
 
@@ -134,9 +139,15 @@ fn break_said(random: &mut Random, image: &mut [u8], counts: &mut Histogram) -> 
 /// A frame, held against a round.
 fn frame(random: &mut Random, pool: &[u32], counts: &mut Histogram) -> Result<(), String> {
     let (bytes, round) = frames::frame_and_round(random, pool);
-    let answer = Engine::frame(&bytes, round);
-    differ("answer", answer, Reference::frame(&bytes, round))
-        .map_err(|difference| format!("frame {bytes:02x?} in round {round}: {difference}"))?;
+    let answer = Reference::frame(&bytes, round);
+    let answers = [
+        (Engine::NAME, Engine::frame(&bytes, round)),
+        (InPlace::NAME, InPlace::frame(&bytes, round)),
+    ];
+    for (name, tested) in answers {
+        differ(name, "answer", tested, answer)
+            .map_err(|difference| format!("frame {bytes:02x?} in round {round}: {difference}"))?;
+    }
     counts.frame[usize::from(answer)] += 1;
     Ok(())
 }
@@ -163,12 +174,9 @@ fn start(
         lent.image.resize(length, 7);
     }
     lend(random, lent);
-    let answer = both(
-        lent,
-        |l| Engine::start(number, bit, &mut l.image, &mut l.out, &mut l.length),
-        |l| Reference::start(number, bit, &mut l.image, &mut l.out, &mut l.length),
-    )
-    .map_err(|difference| format!("start({number}, {bit}): {difference}"))?;
+    let answer = Call::Start { number, bit }
+        .make_on_all(lent)
+        .map_err(|difference| format!("start({number}, {bit}): {difference}"))?;
     counts.start[usize::from(answer)] += 1;
     Ok(())
 }
@@ -187,12 +195,7 @@ fn tray(
     };
     let tray = trays::tray(random, pool, &state);
     lend(random, lent);
-    let answer = both(
-        lent,
-        |l| Engine::tray(&mut l.image, &tray, &mut l.out, &mut l.length),
-        |l| Reference::tray(&mut l.image, &tray, &mut l.out, &mut l.length),
-    )
-    .map_err(|difference| {
+    let answer = Call::Tray(&tray).make_on_all(lent).map_err(|difference| {
         let (length, round) = (tray.len(), state.round);
         format!("tray of {length} bytes for a state of round {round}: {difference}")
     })?;
@@ -228,59 +231,104 @@ fn lend(random: &mut Random, lent: &mut Lent) {
     lent.length = random.below(1000);
 }
 
-/// Makes the call on both and compares the answers and every byte lent.
-fn both(
-    lent: &mut Lent,
-    engine: impl Fn(&mut Lent) -> u8,
-    reference: impl Fn(&mut Lent) -> u8,
-) -> Result<u8, String> {
-    let mut other = lent.clone();
-    let answer = engine(lent);
-    let expected = reference(&mut other);
-    differ("answer", answer, expected)?;
-    differ("length", lent.length, other.length)?;
-    differ_bytes("image", &lent.image, &other.image)?;
-    differ_bytes("output", &lent.out, &other.out)?;
-    let names = ["decision", "round", "king", "heard", "candidates", "echoes"];
-    let answers = Engine::answers(&lent.image);
-    let others = Reference::answers(&other.image);
-    for (name, (answer, expected)) in names.iter().zip(answers.into_iter().zip(others)) {
-        differ(name, answer, expected)?;
-    }
-    differ_records(&lent.image, &other.image)?;
-    Ok(answer)
+/// A call that may change what is lent.
+enum Call<'a> {
+    Start { number: u32, bit: u8 },
+    Tray(&'a [u8]),
 }
 
-/// Asks both for the numbers and rounds at the first places, at those around the end of
-/// heard and of the record, and at some that are far past both.
-fn differ_records(engine: &[u8], reference: &[u8]) -> Result<(), String> {
-    let [_, _, _, heard, ..] = Reference::answers(reference);
-    let last = heard.saturating_sub(1);
-    let far = [63, 64, 228, 256, 1 << 16, 1 << 30, u32::MAX];
-    for place in [0, 1, heard / 2, last, heard].into_iter().chain(far) {
-        let (number, round) = Engine::first_heard(engine, place);
-        let (expected, first) = Reference::first_heard(reference, place);
-        let at = |difference| format!("at place {place} {difference}");
-        differ("heard number", number, expected).map_err(at)?;
-        differ("first round", round, first).map_err(at)?;
+impl Call<'_> {
+    /// Makes the call on the reference and on both tested ones, and compares all that these
+    /// answer, leave and show with what the reference does; the answer.
+    fn make_on_all(&self, lent: &mut Lent) -> Result<u8, String> {
+        let expected = self.make::<Reference>(lent);
+        for made in [self.make::<Engine>(lent), self.make::<InPlace>(lent)] {
+            made.compare(&expected)?;
+        }
+        *lent = expected.lent;
+        Ok(expected.answer)
     }
-    Ok(())
+
+    /// Makes the call on a copy of what is lent.
+    fn make<C: Calls>(&self, lent: &Lent) -> Made {
+        let mut lent = lent.clone();
+        let Lent { image, out, length } = &mut lent;
+        let answer = match *self {
+            Call::Start { number, bit } => C::start(number, bit, image, out, length),
+            Call::Tray(tray) => C::tray(image, tray, out, length),
+        };
+        let answers = C::answers(image);
+        Made {
+            name: C::NAME,
+            answer,
+            answers,
+            record: places(answers[3])
+                .map(|place| (place, C::first_heard(image, place)))
+                .collect(),
+            lent,
+        }
+    }
+}
+
+/// The first places, those around the end of heard and of the record, and some that are far
+/// past both.
+fn places(heard: u32) -> impl Iterator<Item = u32> {
+    let far = [63, 64, 228, 256, 1 << 16, 1 << 30, u32::MAX];
+    let near = [0, 1, heard / 2, heard.saturating_sub(1), heard];
+    near.into_iter().chain(far)
+}
+
+/// What a call answered and left, and what the calls that show a state show then.
+struct Made {
+    /// Whose call it was.
+    name: &'static str,
+    answer: u8,
+    lent: Lent,
+    answers: [u32; 6],
+    /// For each place asked for, the heard number and its first round.
+    record: Vec<(u32, (u32, u32))>,
+}
+
+impl Made {
+    /// The first difference to what the reference made.
+    fn compare(&self, expected: &Made) -> Result<(), String> {
+        let Made { name, lent, .. } = self;
+        differ(name, "answer", self.answer, expected.answer)?;
+        differ(name, "length", lent.length, expected.lent.length)?;
+        differ_bytes(name, "image", &lent.image, &expected.lent.image)?;
+        differ_bytes(name, "output", &lent.out, &expected.lent.out)?;
+        let names = ["decision", "round", "king", "heard", "candidates", "echoes"];
+        for (what, (shown, other)) in names.iter().zip(self.answers.iter().zip(expected.answers)) {
+            differ(name, what, *shown, other)?;
+        }
+        for ((place, shown), (_, other)) in self.record.iter().zip(&expected.record) {
+            let at = |difference| format!("at place {place} {difference}");
+            differ(name, "heard number", shown.0, other.0).map_err(at)?;
+            differ(name, "first round", shown.1, other.1).map_err(at)?;
+        }
+        Ok(())
+    }
 }
 
 fn differ<T: PartialEq + std::fmt::Display>(
+    name: &str,
     what: &str,
-    engine: T,
+    tested: T,
     reference: T,
 ) -> Result<(), String> {
-    match engine == reference {
+    match tested == reference {
         true => Ok(()),
-        false => Err(format!("{what}: engine {engine}, reference {reference}")),
+        false => Err(format!("{what}: {name} {tested}, reference {reference}")),
     }
 }
 
-fn differ_bytes(what: &str, engine: &[u8], reference: &[u8]) -> Result<(), String> {
-    match engine.iter().zip(reference).position(|(e, r)| e != r) {
-        None => Ok(()),
-        Some(at) => differ(&format!("{what} byte {at}"), engine[at], reference[at]),
+/// The bytes are as many: no call changes how long what it is lent is.
+fn differ_bytes(name: &str, what: &str, tested: &[u8], reference: &[u8]) -> Result<(), String> {
+    if tested == reference {
+        return Ok(());
     }
+    let mut pairs = tested.iter().zip(reference);
+    let at = pairs.position(|(t, r)| t != r).expect("as many bytes");
+    let what = format!("{what} byte {at}");
+    differ(name, &what, tested[at], reference[at])
 }

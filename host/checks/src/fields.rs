@@ -70,12 +70,13 @@ impl Fields {
     }
 }
 
+/// Numbers in an image are little-endian.
 pub fn put(image: &mut [u8], at: usize, number: u32) {
-    image[at..at + 4].copy_from_slice(&number.to_be_bytes());
+    image[at..at + 4].copy_from_slice(&number.to_le_bytes());
 }
 
 pub fn get(image: &[u8], at: usize) -> u32 {
-    u32::from_be_bytes([image[at], image[at + 1], image[at + 2], image[at + 3]])
+    u32::from_le_bytes([image[at], image[at + 1], image[at + 2], image[at + 3]])
 }
 
 fn put_list(image: &mut [u8], at: usize, list: &[u32]) {

@@ -1,6 +1,7 @@
 //! What the tests of the compiled engine share.
 //!
-//! `tests/differential.rs` compares the engine with the reference call by call;
+//! `tests/differential.rs` compares the engine, and the one that works in the image,
+//! with the reference call by call;
 //! `tests/fault.rs` makes sure that a fault in the reference is found;
 //! `tests/order.rs` hands over entries in another order;
 //! `tests/networks.rs` runs whole networks with faulty controllers among them;
@@ -12,7 +13,7 @@
 //! `tests/session.rs` runs the session printer.
 //!
 //! - [`c`]: C programs, compiled and run;
-//! - [`calls`]: the calls of both, behind one trait;
+//! - [`calls`]: the calls of each, behind one trait;
 //! - [`random`]: a small random generator, so that a seed fixes a run;
 //! - [`packing`]: frames and trays, packed by hand;
 //! - [`fields`]: the fields of a state's image, for looking and for building;
@@ -20,7 +21,7 @@
 //!   not;
 //! - [`hex`]: bytes written in hex;
 //! - [`page`]: tables and worked calls of the pages in docs/;
-//! - [`compare`]: one call on both, and the first difference;
+//! - [`compare`]: one call on all three, and the first difference;
 //! - [`edges`]: what an accepted tray did; [`copies`], what it had of copies;
 //! - [`records`]: damage to the record of first rounds, and what trays did to it;
 //! - [`quiet`]: damage to the bit said, decided states, and silence in trays;

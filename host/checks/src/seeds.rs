@@ -28,7 +28,7 @@ fn cases(first: u64) -> Result<Histogram, String> {
     Ok(counts)
 }
 
-/// The engine against the reference, on each thread with seeds of its own.
+/// Both tested ones against the reference, on each thread with seeds of its own.
 pub fn compare() -> Result<Histogram, String> {
     let base = first_seed();
     let firsts = (0..THREADS).map(|i| base + i * CASES);

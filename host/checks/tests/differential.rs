@@ -1,4 +1,4 @@
-//! The engine against the reference, call by call.
+//! The engine and the one that works in the image against the reference, call by call.
 //!
 //! `cargo test --release -p checks --test differential -- --nocapture` prints the
 //! seeds and how often each answer was given. CHECKS_SEED moves the first seed.
@@ -11,7 +11,7 @@ use checks::seeds::compare;
 use checks::{copies, quiet, records};
 
 #[test]
-fn the_engine_and_the_reference_agree() {
+fn the_engine_and_the_one_in_the_image_agree_with_the_reference() {
     let counts = compare().unwrap_or_else(|mismatch| panic!("{mismatch}"));
     println!("{} calls, no mismatch", counts.calls());
     println!("answer of start, count: {:?}", named(&counts.start));

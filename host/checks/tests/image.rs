@@ -5,7 +5,7 @@ use std::collections::BTreeSet;
 use std::fs;
 
 use checks::calls::{Calls, Engine, Reference};
-use checks::fields::{Fields, ECHOES, FIRST_ROUNDS, IMAGE_LEN, RESERVED};
+use checks::fields::{put, Fields, ECHOES, FIRST_ROUNDS, HEARD, IMAGE_LEN, RESERVED};
 use checks::{c, page};
 
 /// Text with each run of spaces and line ends as one space.
@@ -144,7 +144,7 @@ fn the_bit_said_is_sound_as_the_page_says() {
             assert_eq!(fitting.len(), 1, "one row for each decision and round");
             let expected = allowed(&fitting[0][2], bit).contains(&said);
             let mut image = image(&[5, 7, 9], &[1, 0, 1]);
-            image[7] = round as u8;
+            put(&mut image, 4, round);
             (image[8], image[9], image[15]) = (bit, said, decision);
             if round == 1 {
                 image[ECHOES..FIRST_ROUNDS].fill(0);
@@ -166,4 +166,15 @@ fn an_image_without_first_rounds_is_sound_only_alone() {
         let answer = Engine::tray(&mut older, &[0, 0, 0, 2, 0, 0, 0, 0], &mut [0; 264], &mut 0);
         assert_eq!(answer, 1);
     }
+}
+
+#[test]
+fn an_image_with_big_endian_numbers_is_not_sound() {
+    let mut older = image(&[5, 7, 9], &[1, 0, 1]);
+    assert!(sound(&older));
+    let lists = (HEARD..FIRST_ROUNDS).step_by(4);
+    for at in [0, 4, 11].into_iter().chain(lists) {
+        older[at..at + 4].reverse();
+    }
+    assert!(!sound(&older));
 }

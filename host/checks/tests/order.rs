@@ -2,7 +2,7 @@
 
 #![cfg(not(feature = "fault"))]
 
-use checks::calls::{Calls, Engine};
+use checks::calls::{Calls, Engine, InPlace};
 use checks::packing::{pack, unpack};
 use checks::random::Random;
 use checks::{states, trays};
@@ -10,14 +10,23 @@ use checks::{states, trays};
 const CASES: u64 = 50_000;
 
 /// What a call answers and leaves.
-fn answer(image: &[u8], tray: &[u8]) -> (u8, usize, Vec<u8>, [u8; 264]) {
+fn answer<C: Calls>(image: &[u8], tray: &[u8]) -> (u8, usize, Vec<u8>, [u8; 264]) {
     let (mut image, mut out, mut length) = (image.to_vec(), [7; 264], 0);
-    let answer = Engine::tray(&mut image, tray, &mut out, &mut length);
+    let answer = C::tray(&mut image, tray, &mut out, &mut length);
     (answer, length, image, out)
 }
 
 #[test]
 fn entries_in_another_order_get_the_same_answer() {
+    order_does_not_matter::<Engine>();
+}
+
+#[test]
+fn and_so_where_they_are_worked_in_the_image() {
+    order_does_not_matter::<InPlace>();
+}
+
+fn order_does_not_matter<C: Calls>() {
     let (mut accepted, mut moved) = (0, 0);
     for seed in 0..CASES {
         let mut random = Random::new(seed);
@@ -25,7 +34,7 @@ fn entries_in_another_order_get_the_same_answer() {
         let state = states::sound(&mut random, &pool);
         let tray = trays::tray(&mut random, &pool, &state);
         let image = state.image();
-        let given = answer(&image, &tray);
+        let given = answer::<C>(&image, &tray);
         // The tray may not be well packed, so that there are no entries.
         if matches!(given.0, 2 | 4) {
             continue;
@@ -36,8 +45,11 @@ fn entries_in_another_order_get_the_same_answer() {
         let other = pack(round, &entries);
         moved += u64::from(other != tray);
         accepted += u64::from(given.0 == 0);
-        assert_eq!(given, answer(&image, &other), "seed {seed}");
+        assert_eq!(given, answer::<C>(&image, &other), "seed {seed}");
     }
-    println!("{moved} trays in another order, {accepted} accepted");
+    println!(
+        "{}: {moved} trays in another order, {accepted} accepted",
+        C::NAME
+    );
     assert!(moved >= 10_000 && accepted >= 10_000);
 }

@@ -104,7 +104,7 @@ pub fn write(round: u32, bit: u8, list: &[u32], out: &mut [u8]) -> usize {
 }
 
 /// Big-endian numbers out of bytes.
-pub(crate) fn numbers(bytes: &[u8]) -> impl ExactSizeIterator<Item = u32> + '_ {
+fn numbers(bytes: &[u8]) -> impl ExactSizeIterator<Item = u32> + '_ {
     bytes
         .chunks_exact(4)
         .map(|number| u32::from_be_bytes(number.try_into().expect("four bytes")))
@@ -119,7 +119,7 @@ pub(crate) fn write_numbers(list: &[u32], bytes: &mut [u8]) {
 
 /// Strictly rising and nonzero: the first is over 0, each next over the one before.
 /// No early way out, so that the loop takes several numbers at a time.
-pub(crate) fn is_rising(list: &[u8]) -> bool {
+fn is_rising(list: &[u8]) -> bool {
     let nexts = list.get(4..).unwrap_or(&[]);
     let rises = numbers(list)
         .zip(numbers(nexts))

@@ -1,6 +1,6 @@
 //! A list of at most 64 rising numbers, with unused places 0.
 
-use crate::frame::{is_rising, numbers, write_numbers, MAX_NUMBERS};
+use crate::frame::MAX_NUMBERS;
 
 /// Bytes of a list in the image: the count, then every place.
 pub const LIST_LEN: usize = 4 + 4 * MAX_NUMBERS;
@@ -29,21 +29,23 @@ impl List {
     /// breaks the list's rules.
     pub fn load(&mut self, bytes: &[u8]) -> Option<()> {
         let (count, places) = bytes.split_first_chunk::<4>()?;
-        let count = u32::from_be_bytes(*count) as usize;
+        let count = u32::from_le_bytes(*count) as usize;
         if count > MAX_NUMBERS {
             return None;
         }
         let (used, unused) = places.split_at_checked(4 * count)?;
-        for (place, number) in self.places.iter_mut().zip(numbers(used)) {
-            *place = number;
+        for (place, bytes) in self.places.iter_mut().zip(used.chunks_exact(4)) {
+            *place = u32::from_le_bytes(bytes.try_into().expect("four bytes"));
         }
         self.len = count;
-        (is_rising(used) && is_zero(unused)).then_some(())
+        (is_rising(self.as_slice()) && is_zero(unused)).then_some(())
     }
 
     pub fn write(&self, bytes: &mut [u8]) {
-        bytes[..4].copy_from_slice(&(self.len as u32).to_be_bytes());
-        write_numbers(&self.places, &mut bytes[4..]);
+        bytes[..4].copy_from_slice(&(self.len as u32).to_le_bytes());
+        for (place, number) in bytes[4..].chunks_exact_mut(4).zip(self.places) {
+            place.copy_from_slice(&number.to_le_bytes());
+        }
     }
 
     pub fn len(&self) -> usize {
@@ -83,6 +85,12 @@ impl List {
         }
         free
     }
+}
+
+/// Strictly rising and nonzero, without an early way out.
+fn is_rising(list: &[u32]) -> bool {
+    let rises = |rises, pair: &[u32]| rises & (pair[0] < pair[1]);
+    list.windows(2).fold(true, rises) && list.first() != Some(&0)
 }
 
 /// Whether all bytes are 0, without an early way out.

@@ -142,12 +142,12 @@ impl State {
     }
 
     pub fn write(&self, image: &mut [u8; IMAGE_LEN]) {
-        image[0..4].copy_from_slice(&self.number.to_be_bytes());
-        image[4..8].copy_from_slice(&self.round.to_be_bytes());
+        image[0..4].copy_from_slice(&self.number.to_le_bytes());
+        image[4..8].copy_from_slice(&self.round.to_le_bytes());
         image[8] = self.bit;
         image[9] = self.said;
         image[10] = u8::from(self.strong);
-        image[11..15].copy_from_slice(&self.king.to_be_bytes());
+        image[11..15].copy_from_slice(&self.king.to_le_bytes());
         image[15] = self.decision;
         self.heard.write(&mut image[HEARD..CANDIDATES]);
         self.candidates.write(&mut image[CANDIDATES..ECHOES]);
@@ -165,6 +165,7 @@ fn are_tray_rounds(rounds: &[u8]) -> bool {
         .fold(true, |all, round| all & worked.contains(round))
 }
 
+/// Numbers in an image are little-endian.
 fn number_at(image: &[u8; IMAGE_LEN], at: usize) -> u32 {
-    u32::from_be_bytes([image[at], image[at + 1], image[at + 2], image[at + 3]])
+    u32::from_le_bytes([image[at], image[at + 1], image[at + 2], image[at + 3]])
 }

@@ -347,20 +347,21 @@ fn first_rounds_are_in_range_and_0_in_unused_places() {
     }
 }
 
-/// Where the image has the own bit, the bit said, strong, the king's last byte and the
-/// decision.
+/// Where the image has the round's lowest byte, the own bit, the bit said, strong, the
+/// king's lowest byte and the decision.
+const ROUND: usize = 4;
 const BIT: usize = 8;
 const SAID: usize = 9;
 const STRONG: usize = 10;
-const KING: usize = 14;
+const KING: usize = 11;
 const DECISION: usize = 15;
 
 /// A list at its place in an image: the count, then the numbers, all under 256.
 fn put_list(image: &mut [u8], at: usize, numbers: &[u8]) {
     image[at..at + 260].fill(0);
-    image[at + 3] = numbers.len() as u8;
+    image[at] = numbers.len() as u8;
     for (place, &number) in numbers.iter().enumerate() {
-        image[at + 4 + 4 * place + 3] = number;
+        image[at + 4 + 4 * place] = number;
     }
 }
 
@@ -368,7 +369,7 @@ fn put_list(image: &mut [u8], at: usize, numbers: &[u8]) {
 /// 3, 5 and 9; all four are candidates, 5 is king, and the echoes are 11 and 12.
 fn of_four(round: u8, [bit, said]: [u8; 2]) -> Controller {
     let mut c = Controller::start(7, bit);
-    c.image[7] = round;
+    c.image[ROUND] = round;
     c.image[SAID] = said;
     c.image[KING] = 5;
     put_list(&mut c.image, 16, &[3, 5, 7, 9]);
@@ -385,8 +386,8 @@ fn of_four(round: u8, [bit, said]: [u8; 2]) -> Controller {
 
 /// The numbers of the list at a place of the image.
 fn list(c: &Controller, at: usize) -> Vec<u8> {
-    let count = usize::from(c.image[at + 3]);
-    (0..count).map(|i| c.image[at + 4 + 4 * i + 3]).collect()
+    let count = usize::from(c.image[at]);
+    (0..count).map(|i| c.image[at + 4 + 4 * i]).collect()
 }
 
 fn candidates(c: &Controller) -> Vec<u8> {
@@ -425,7 +426,7 @@ fn no_silences(good: &[u8]) -> [Vec<Vec<u8>>; 4] {
 fn work(c: &mut Controller, from: &[u8], frames: &[Vec<u8>]) {
     let of = |&n: &u8| frames.iter().map(move |frame| (n, frame.as_slice()));
     let entries: Vec<(u8, &[u8])> = from.iter().flat_map(of).collect();
-    let tray = tray_from(c.image[7], &entries);
+    let tray = tray_from(c.image[ROUND], &entries);
     assert_eq!(c.tray(&tray), WORKED);
 }
 
