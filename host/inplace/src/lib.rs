@@ -2,8 +2,9 @@
 //!
 //! This is the benchmark's second yardstick: the calls of `include/controller.h` over
 //! slices, as the `reference` has them, but worked in the image. Lists are searched and
-//! read where they lie in its bytes, and only what changes is written. The `reference` is
-//! the one for trust; this one is held to be equal to it.
+//! read where they lie in its bytes, and written only by a step that counts some. With new
+//! senders a copy of the image is worked. The `reference` is the one for trust; this one
+//! is held to be equal to it, and shares no code with it.
 //!
 //! - `image` says where fields lie in an image and how its words lie in bytes;
 //! - `sound` tests an image;
