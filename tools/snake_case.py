@@ -15,8 +15,8 @@ import sys
 
 WORD = r"[A-Za-z0-9_'₀-₉·◌-]+"
 HEAD = re.compile(r"^\s*(?:unfoldable\s+|abbrev\s+|pub\s+)*(" + WORD + r")\s*(?:\{[^}]*\}\s*)*:\s*(.*)$")
-# Two definitions that a dash joins.
-JOINED = {"laidOut-sound": "laid_out-sound", "laidOut-takenApart": "laid_out-taken_apart", "takenApart-laidOut": "taken_apart-laid_out"}
+# Two definitions that a dash joins, and a word that port.py turned where it stood alone.
+JOINED = {"getD-in": "get_or_in", "getD-inside": "get_or_inside", "laidOut-sound": "laid_out-sound", "laidOut-takenApart": "laid_out-taken_apart", "takenApart-laidOut": "taken_apart-laid_out"}
 # Lemmas that port.py turned, and that a definition of the same name would fall together with: they get `_lem`, as does a lemma with a dash below.
 PRIOR = {
     "crates/run/specs/Inhabitants/": ["all_pass"],
@@ -136,7 +136,7 @@ def main(argv):
             # a step of the code is a field with a dash
             steps = {n: m for n, m in own.items() if "-" not in n}
             kept = re.split(r"(\.[A-Za-z0-9_'₀-₉-]+)", t)
-            return "".join(turn(k, steps) if k.startswith(".") else turn(k, own) for k in kept)
+            return "".join(turn(k, steps if i % 2 else own) for i, k in enumerate(kept))
 
         head = comments(text, "--", code, lambda t: turn(t, names))
         with open(path, "w", encoding="utf-8") as f:

@@ -5,12 +5,9 @@
 --     promise_worked      what is promised of a call that is not refused and knows no record does not depend on the state that a refusal would keep,
 --                         and holds with the record beside it
 --     tests_left          of a tray that has passed tests 1 to 5, the tests that are left
-use Prim.Native.Nat.{ℕ}
-use mathlib.Core.Bool.{false, cond}
-use mathlib.Core.List.{List, []}
-use mathlib.Core.Path.{◌≡◌, sym, ap, ◌∙◌}
-use borrow.Author.Tests.{lt-ltb, le-leb, eq-eqb}
-use lib.Dec.{eqb}
+use Rattle.std.specs.Prelude.{ℕ, false, cond, List, [], eqb}
+use Rattle.std.proofs.Math.Path.{◌≡◌, ◌∙◌}
+use Rattle.std.proofs.Common.{sym, ap, lt-ltb, le-leb, eq-eqb}
 use Rattle.wire.specs.Limits.{max_frame, last_round}
 use Rattle.wire.specs.Tray.{entries, round_of}
 use Rattle.controller.specs.Fields.{whole_of, answer_of}

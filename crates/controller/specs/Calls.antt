@@ -7,10 +7,9 @@
 --     WorkPromise                      the promise of work: that of tray, of a state in parts
 use Rattle.std.specs.Prelude.{ℕ, cond, List, [], ◌++◌, ◌≡◌, eqb, length, drop}
 use Rattle.wire.specs.Frame.{frame_bytes}
-use Rattle.wire.specs.Lent.{before, after}
 use Rattle.wire.specs.Tray.{entries}
 use Rattle.controller.specs.State.{View, view, undecided, stored_state, start_view, start_rounds, zero_state}
-use Rattle.controller.specs.Fields.{Lent, whole_before, answer_of}
+use Rattle.controller.specs.Fields.{whole_of, answer_of}
 use Rattle.controller.specs.Received.{frame_of}
 use Rattle.controller.specs.First.{rounds_after}
 use Rattle.controller.specs.Rules.{next}
@@ -38,7 +37,6 @@ StartPromise number bit given r left = Promise (start_refusal number bit (length
 abbrev pub TrayPromise : State → List ℕ → List ℕ → Answer → List ℕ → Type 0
 TrayPromise s tray given r left = Promise (tray_refusal s tray (length given)) (next (view s) (entries tray)) (rounds_after s (entries tray)) s given r left
 
--- work(fields, heard, candidates, echoes, since, tray, out)
-abbrev pub WorkPromise : Fields → Lent → Lent → Lent → Lent → Lent → Lent → Worked → Type 0
-WorkPromise f h c e p tray out r =
-    TrayPromise (whole_before f h c e p) (before tray) (before out) (answer_of r (after h) (after c) (after e) (after p)) (after out)
+-- work(fields, heard, candidates, echoes, since, tray, out), with the lists and the buffer that are given and as they are left
+abbrev pub WorkPromise : Fields → List ℕ → List ℕ → List ℕ → List ℕ → List ℕ → List ℕ → Worked → List ℕ → List ℕ → List ℕ → List ℕ → List ℕ → Type 0
+WorkPromise f h c e p tray given r h' c' e' p' left = TrayPromise (whole_of f h c e p) tray given (answer_of r h' c' e' p') left

@@ -22,7 +22,7 @@ fn king_opinion(
     notes: &[u32; MAX_NUMBERS],
 ) -> u8
     requires { sound_list (in_places fields.heard heard.now) ≡ true }
-    ensures { WhereReady fields heard tray notes (λ s b. kind_of s.round ≡ 5 → result ≡ king_opinion (view s) (received_by s b)) }
+    ensures { WhereReady fields heard.now tray.now notes.now (λ s b. kind_of s.round ≡ 5 → result ≡ king_opinion (view s) (received_by s b)) }
 {
     let king = fields.king;
     let place = place_in(heard, fields.heard, king);
@@ -44,7 +44,7 @@ pub(crate) fn bit_taken(
     notes: &[u32; MAX_NUMBERS],
 ) -> u8
     requires { sound_list (in_places fields.heard heard.now) ≡ true }
-    ensures { WhereReady fields heard tray notes (λ s b. kind_of (s.round + 1) ≡ 3 → result ≡ bit_taken (view s) (received_by s b)) }
+    ensures { WhereReady fields heard.now tray.now notes.now (λ s b. kind_of (s.round + 1) ≡ 3 → result ≡ bit_taken (view s) (received_by s b)) }
 {
     let bit = fields.bit;
     if fields.round < 3 {
@@ -72,7 +72,7 @@ pub(crate) fn proposal(counts: Counts, h: usize) -> u8
 }
 
 // What making round 5 + 3r gives of the bit.
-#[derive(Drop)]
+#[derive(Clone, Copy)]
 pub(crate) struct Turn {
     pub bit: u8,
     pub strong: u8,

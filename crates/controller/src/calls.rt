@@ -1,13 +1,12 @@
 // The two calls: start, and tray, which works a tray of frames or refuses it; and work, which is tray on a state that is lent in parts.
 ghost use Rattle.std.specs.Prelude.{◌≡◌, ◌≤◌, length};
-ghost use Rattle.wire.specs.Lent.{before, after};
 ghost use Rattle.wire.specs.Limits.{max_frame};
-ghost use Rattle.controller.specs.Fields.{whole_before, whole_given, state_given};
+ghost use Rattle.controller.specs.Fields.{state_of, whole_of};
 ghost use Rattle.controller.specs.State.{zero_state, stored_state, start_view, start_rounds};
 ghost use Rattle.controller.specs.Calls.{StartPromise, TrayPromise, WorkPromise};
 ghost use Rattle.controller.specs.Work.Calls.{early_refusal, Checked, LastTest, HeardTray, SendsFields};
 
-use crate::first::{put_back, record_new};
+use crate::first::take_over;
 use crate::lists::no_numbers;
 use crate::received::{hear, senders_fit, sent_count};
 use crate::sound::{fields_of, is_sound};
@@ -83,7 +82,7 @@ fn refused_in_place(refusal: u8, fields: Fields) -> Worked
 // Writes the frame that is sent with a state, and returns its length; a decided one sends nothing.
 fn send(fields: Fields, echoes: &[u32], out: &mut [u8]) -> usize
     requires { (max_frame ≤ length out.old) × (fields.echoes ≤ length echoes.now) }
-    ensures { SendsFields fields (before echoes) (before out) result (after out) }
+    ensures { SendsFields fields echoes.now out.old result out.new }
 {
     if fields.decision != NO_BIT {
         return 0;
@@ -94,7 +93,7 @@ fn send(fields: Fields, echoes: &[u32], out: &mut [u8]) -> usize
 
 // Begins a run with a number and a bit, and writes the init frame. Refusals 9, then 3.
 pub fn start(number: u32, bit: u8, out: &mut [u8]) -> Answer
-    ensures { StartPromise number bit (before out) result (after out) }
+    ensures { StartPromise number bit out.old result out.new }
 {
     if number == 0 {
         return refused(9, zero_state());
@@ -125,8 +124,8 @@ fn work_heard(
     notes: &[u32; MAX_NUMBERS],
     out: &mut [u8],
 ) -> Worked
-    requires { HeardTray (state_given fields heard candidates echoes) tray.now notes.now (length out.old) }
-    ensures { LastTest fields heard candidates echoes tray out result }
+    requires { HeardTray (state_of fields heard.now candidates.old echoes.old) tray.now notes.now (length out.old) }
+    ensures { LastTest fields heard.now candidates.old echoes.old tray.now out.old result candidates.new echoes.new out.new }
 {
     let made = step(fields, heard, candidates, echoes, tray, notes);
     let fits = made.fits;
@@ -153,37 +152,26 @@ fn work_checked(
     tray: &[u8],
     out: &mut [u8],
 ) -> Worked
-    requires { Checked (whole_given fields heard candidates echoes since) tray.now (length out.old) }
-    ensures { WorkPromise fields heard candidates echoes since tray out result }
+    requires { Checked (whole_of fields heard.old candidates.old echoes.old since.old) tray.now (length out.old) }
+    ensures { WorkPromise fields heard.old candidates.old echoes.old since.old tray.now out.old result heard.new candidates.new echoes.new since.new out.new }
 {
-    let mut known = [0u32; MAX_NUMBERS];
+    let mut after = *heard;
     let mut notes = [NO_FRAME; MAX_NUMBERS];
-    let len = hear(
-        tray,
-        fields.own,
-        heard,
-        fields.heard,
-        &mut known,
-        &mut notes,
-    );
+    let len = hear(tray, fields.own, &mut after, fields.heard, &mut notes);
     if len <= MAX_NUMBERS {
         let mut more = fields;
         more.heard = len;
-        let worked = work_heard(more, heard, candidates, echoes, tray, &notes, out);
+        let worked = work_heard(more, &after, candidates, echoes, tray, &notes, out);
         if worked.refusal == 0 {
-            record_new(&known, fields.heard, heard, len, fields.round as u8, since);
+            take_over(heard, fields.heard, &after, len, fields.round as u8, since);
             worked
         } else {
-            put_back(heard, len, &known, fields.heard);
             refused_in_place(8, fields)
         }
+    } else if senders_fit(tray, fields.own) {
+        refused_in_place(7, fields)
     } else {
-        put_back(heard, len, &known, fields.heard);
-        if senders_fit(tray, fields.own) {
-            refused_in_place(7, fields)
-        } else {
-            refused_in_place(6, fields)
-        }
+        refused_in_place(6, fields)
     }
 }
 
@@ -197,7 +185,7 @@ fn early_refusal(
     tray: &[u8],
     room: usize,
 ) -> u8
-    ensures { result ≡ early_refusal (whole_before fields heard candidates echoes since) (before tray) room }
+    ensures { result ≡ early_refusal (whole_of fields heard.now candidates.now echoes.now since.now) tray.now room }
 {
     if !is_sound(fields, heard, candidates, echoes, since) {
         1
@@ -224,7 +212,7 @@ pub fn work(
     tray: &[u8],
     out: &mut [u8],
 ) -> Worked
-    ensures { WorkPromise fields heard candidates echoes since tray out result }
+    ensures { WorkPromise fields heard.old candidates.old echoes.old since.old tray.now out.old result heard.new candidates.new echoes.new since.new out.new }
 {
     let refusal = early_refusal(fields, heard, candidates, echoes, since, tray, out.len());
     if refusal == 0 {
@@ -236,7 +224,7 @@ pub fn work(
 
 // Works a tray of the state's round and writes the next frame, if the controller has not decided then; or refuses the tray.
 pub fn tray(state: State, tray: &[u8], out: &mut [u8]) -> Answer
-    ensures { TrayPromise state (before tray) (before out) result (after out) }
+    ensures { TrayPromise state tray.now out.old result out.new }
 {
     let mut heard = state.heard;
     let mut candidates = state.candidates;

@@ -1,10 +1,9 @@
 // When each number was first heard: the record beside heard, which no rule of a step reads.
 ghost use Rattle.std.specs.Prelude.{true, ◌&&◌, List, ◌≡◌, ℕ, ◌≤◌, ◌<◌, leb, length, take};
-ghost use Rattle.wire.specs.Lent.{before, after};
 ghost use Rattle.wire.specs.Limits.{max_numbers};
 ghost use Rattle.controller.specs.Lists.{count_if};
 ghost use Rattle.controller.specs.State.{sound_list};
-ghost use Rattle.controller.specs.Work.First.{is_zero, timely, RoundsSound, moved_to, Keeps, Records};
+ghost use Rattle.controller.specs.Work.First.{is_zero, timely, RoundsSound, moved_to, Grown};
 ghost use Rattle.controller.specs.Work.Lists.{in_places};
 
 use crate::lists::{ABSENT, find_near};
@@ -17,7 +16,7 @@ const LAST_WORKED: u8 = 194;
 // How many of the first `len` places are 0.
 fn zeros(rounds: &[u8; MAX_NUMBERS], len: usize) -> u8
     requires { (len ≤ max_numbers) × (length rounds.now ≡ max_numbers) }
-    ensures { result ≡ count_if is_zero (take len (before rounds)) }
+    ensures { result ≡ count_if is_zero (take len rounds.now) }
 {
     let mut zeros = 0;
     let mut i = 0;
@@ -38,7 +37,7 @@ fn later(x: u8, y: u8) -> u8
 // Whether no round is past the last that can be worked: whether the latest is not. The loop has no way out to wait for.
 fn all_timely(rounds: &[u8; MAX_NUMBERS]) -> bool
     requires { length rounds.now ≡ max_numbers }
-    ensures { result ≡ timely (before rounds) }
+    ensures { result ≡ timely rounds.now }
 {
     let mut last = 0;
     let mut i = 0;
@@ -53,7 +52,7 @@ fn all_timely(rounds: &[u8; MAX_NUMBERS]) -> bool
 // more as there are unused places are theirs: to count costs less than to test place by place.
 pub(crate) fn rounds_sound(since: &[u8; MAX_NUMBERS], len: usize, own: usize) -> bool
     requires { (len ≤ max_numbers) × (own < len) }
-    ensures { RoundsSound len own (before since) result }
+    ensures { RoundsSound len own since.now result }
 {
     // The making of a slice shows how many places an array has.
     let places = &since[..];
@@ -72,7 +71,7 @@ fn record_rounds(
     since: &mut [u8; MAX_NUMBERS],
 )
     requires { (sound_list (in_places len heard.now) ≡ true) × (count ≤ max_numbers) }
-    ensures { after since ≡ moved_to (take len (before heard)) (take count (before all)) round (before since) }
+    ensures { since.new ≡ moved_to (take len heard.now) (take count all.now) round since.old }
 {
     let old = *since;
     // The making of a slice shows how many places an array has.
@@ -87,33 +86,20 @@ fn record_rounds(
     }
 }
 
-// Moves the record to beside those heard with a tray. Where nobody is new there is nothing to do.
-pub(crate) fn record_new(
-    known: &[u32; MAX_NUMBERS],
+// Puts those heard with a tray in the place of those heard before it, with the record beside them. Where nobody is new there is nothing to do.
+pub(crate) fn take_over(
+    heard: &mut [u32; MAX_NUMBERS],
     len: usize,
-    heard: &[u32; MAX_NUMBERS],
+    all: &[u32; MAX_NUMBERS],
     count: usize,
     round: u8,
     since: &mut [u8; MAX_NUMBERS],
 )
-    requires { (len < count → sound_list (in_places len known.now) ≡ true) × (count ≤ max_numbers) }
-    ensures { Records len count (before known) (before heard) round (before since) (after since) }
+    requires { Grown (in_places len heard.old) (in_places count all.now) × (length since.old ≡ max_numbers) }
+    ensures { (heard.new ≡ all.now) × (since.new ≡ moved_to (take len heard.old) (take count all.now) round since.old) }
 {
     if len < count {
-        record_rounds(known, len, heard, count, round, since);
-    }
-}
-
-// Puts those `known` before a tray back, where more were heard with it.
-pub(crate) fn put_back(
-    heard: &mut [u32; MAX_NUMBERS],
-    count: usize,
-    known: &[u32; MAX_NUMBERS],
-    len: usize,
-)
-    ensures { (old : List ℕ) → Keeps len count old (before known) (before heard) → after heard ≡ old }
-{
-    if len < count {
-        *heard = *known;
+        record_rounds(heard, len, all, count, round, since);
+        *heard = *all;
     }
 }

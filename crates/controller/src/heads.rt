@@ -2,10 +2,9 @@
 // of a tree in which each node is the lesser of the two below it, so that node 1 is the least head and says whose it is. With `len` lists the leaves are
 // the nodes from `len` on, and the two nodes below node i are 2i and 2i + 1.
 ghost use Rattle.std.specs.Prelude.{List, ◌≡◌, ℕ, ◌*◌, ◌/◌, ◌≤◌, ◌<◌, length, get_or};
-ghost use Rattle.wire.specs.Lent.{before, after};
-ghost use Rattle.controller.specs.Work.Opened.{end_mark, max_lists, Opens};
+ghost use Rattle.controller.specs.Work.Opened.{end_mark, max_lists, open_list, Opens};
 ghost use Rattle.controller.specs.Work.Heads.{slots, key_of, lesser_of, sibling_of, Ordered, Roomy, LinesUp, Movable};
-ghost use Rattle.controller.specs.Work.Heads.{MovesOn, Passable, PassesOn, Readable, list_before};
+ghost use Rattle.controller.specs.Work.Heads.{Moves, Passable, Passes, Readable};
 
 use crate::opened::number_in;
 
@@ -13,7 +12,7 @@ use crate::opened::number_in;
 pub(crate) const SLOTS: usize = 128;
 
 // What passing a number tells: how many sent a list with it, and the key of the next one.
-#[derive(Drop)]
+#[derive(Clone, Copy)]
 pub(crate) struct Passed {
     pub count: usize,
     pub first: usize,
@@ -35,8 +34,8 @@ fn sibling(i: usize) -> usize
 
 // The key of place `i` of list `j`.
 fn key_at(own: &[u32], tray: &[u8], starts: &[usize], counts: &[usize], j: usize, i: usize) -> usize
-    requires { (j < max_lists) × Readable own tray starts counts j }
-    ensures { result ≡ key_of j (get_or (list_before own tray starts counts j) i end_mark) }
+    requires { (j < max_lists) × Readable own.now tray.now starts.now counts.now j }
+    ensures { result ≡ key_of j (get_or (open_list own.now tray.now starts.now counts.now j) i end_mark) }
 {
     number_in(own, tray, j, starts[j], counts[j], i) * SLOTS + j
 }
@@ -54,8 +53,8 @@ fn move_on(
     nexts: &mut [usize],
     at: &mut [usize],
 ) -> usize
-    requires { Movable len j tree nexts at × Readable own tray starts counts j }
-    ensures { MovesOn (list_before own tray starts counts j) len j tree nexts at result }
+    requires { Movable len j tree.old nexts.old at.old × Readable own.now tray.now starts.now counts.now j }
+    ensures { Moves (open_list own.now tray.now starts.now counts.now j) len j tree.old nexts.old at.old result tree.new nexts.new at.new }
 {
     let key = nexts[j];
     let i = at[j] + 1;
@@ -68,7 +67,7 @@ fn move_on(
 // Makes the inner nodes of a tree from its leaves.
 fn build(tree: &mut [usize], len: usize)
     requires { (0 < len) × (2 * len ≤ length tree.old) }
-    ensures { Ordered (after tree) len × ((p : ℕ) → len ≤ p → get_or (after tree) p 0 ≡ get_or (before tree) p 0) }
+    ensures { Ordered tree.new len × ((p : ℕ) → len ≤ p → get_or tree.new p 0 ≡ get_or tree.old p 0) }
 {
     let mut i = len;
     while 1 < i {
@@ -89,7 +88,7 @@ pub(crate) fn line_up(
     at: &mut [usize],
 )
     requires { ((w : List ℕ) × Opens own.now tray.now starts.now counts.now w len) × Roomy tree.old nexts.old at.old }
-    ensures { LinesUp own tray starts counts len tree nexts at }
+    ensures { LinesUp own.now tray.now starts.now counts.now len tree.new nexts.new at.new }
 {
     let mut j = 0;
     while j < len {
@@ -115,8 +114,8 @@ pub(crate) fn pass(
     nexts: &mut [usize],
     at: &mut [usize],
 ) -> Passed
-    requires { Passable own tray starts counts sent len first tree nexts at }
-    ensures { PassesOn own tray starts counts sent len (first / slots) result tree nexts at }
+    requires { Passable own.now tray.now starts.now counts.now sent.now len first tree.old nexts.old at.old }
+    ensures { Passes own.now tray.now starts.now counts.now sent.now len (first / slots) result tree.new nexts.new at.new }
 {
     let limit = (first / SLOTS + 1) * SLOTS;
     let mut j = first % SLOTS;

@@ -1,4 +1,6 @@
 // One controller's part in a run: its state, and the two calls, start and tray. Bytes are known through the crate wire alone.
+#![tactic(auto)]
+
 mod bit;
 pub mod calls;
 mod first;

@@ -1,6 +1,5 @@
 // Rising lists of controller numbers, in their stored form. A list is lent, its places beside its length, since a search copies nothing.
 ghost use Rattle.std.specs.Prelude.{true, [], ◌≡◌, ◌+◌, ◌-◌, ◌≤◌, ◌<◌, length, get_or, take};
-ghost use Rattle.wire.specs.Lent.{before, after};
 ghost use Rattle.wire.specs.Limits.{max_numbers};
 ghost use Rattle.wire.specs.Numbers.{stored, listed};
 ghost use Rattle.controller.specs.Lists.{mem, Rising};
@@ -22,7 +21,7 @@ pub(crate) fn no_numbers() -> Numbers
 // How many of the first `len` numbers are below `x`: the place where `x` stands or belongs.
 pub(crate) fn place_in(at: &[u32; MAX_NUMBERS], len: usize, x: u32) -> usize
     requires { sound_list (in_places len at.now) ≡ true }
-    ensures { result ≡ below x (listed (in_places len (before at))) }
+    ensures { result ≡ below x (listed (in_places len at.now)) }
 {
     let mut low = 0;
     let mut high = len;
@@ -44,7 +43,7 @@ pub(crate) const ABSENT: usize = 128;
 // go by rising senders.
 pub(crate) fn find_near(at: &[u32; MAX_NUMBERS], len: usize, x: u32, guess: usize) -> usize
     requires { sound_list (in_places len at.now) ≡ true }
-    ensures { result ≡ found_in x (listed (in_places len (before at))) }
+    ensures { result ≡ found_in x (listed (in_places len at.now)) }
 {
     if guess < len {
         if at[guess] == x {
@@ -62,7 +61,7 @@ pub(crate) fn find_near(at: &[u32; MAX_NUMBERS], len: usize, x: u32, guess: usiz
 // Whether `x` stands just before a place.
 pub(crate) fn stands_before(at: &[u32; MAX_NUMBERS], place: usize, x: u32) -> bool
     requires { place ≤ max_numbers }
-    ensures { result ≡ true → (0 < place) × (get_or (before at) (place - 1) 0 ≡ x) }
+    ensures { result ≡ true → (0 < place) × (get_or at.now (place - 1) 0 ≡ x) }
 {
     (0 < place) && (at[place - 1] == x)
 }
@@ -70,7 +69,7 @@ pub(crate) fn stands_before(at: &[u32; MAX_NUMBERS], place: usize, x: u32) -> bo
 // The place where `x` stands or belongs in a rising list, searched from a place on that is not behind it.
 pub(crate) fn place_from(list: &[u32], len: usize, from: usize, x: u32) -> usize
     requires { Rising (take len list.now) × (len ≤ length list.now) × (from ≤ below x (take len list.now)) }
-    ensures { result ≡ below x (take len (before list)) }
+    ensures { result ≡ below x (take len list.now) }
 {
     let mut i = from;
     while i < len {
@@ -85,7 +84,7 @@ pub(crate) fn place_from(list: &[u32], len: usize, from: usize, x: u32) -> usize
 // Whether `x` stands at its place `i`.
 pub(crate) fn has_at(at: &[u32; MAX_NUMBERS], len: usize, i: usize, x: u32) -> bool
     requires { (sound_list (in_places len at.now) ≡ true) × (i ≡ below x (listed (in_places len at.now))) }
-    ensures { result ≡ mem x (listed (in_places len (before at))) }
+    ensures { result ≡ mem x (listed (in_places len at.now)) }
 {
     (i < len) && (at[i] == x)
 }
@@ -93,7 +92,7 @@ pub(crate) fn has_at(at: &[u32; MAX_NUMBERS], len: usize, i: usize, x: u32) -> b
 // Puts `x` in at place `to`, what stands from there on, up to `len`, one place further.
 pub(crate) fn open_at(at: &mut [u32; MAX_NUMBERS], len: usize, to: usize, x: u32)
     requires { (length at.old ≡ max_numbers) × (to ≤ len) × (len < max_numbers) }
-    ensures { after at ≡ opened to x len (before at) }
+    ensures { at.new ≡ opened to x len at.old }
 {
     let mut i = len;
     while to < i {
@@ -106,7 +105,7 @@ pub(crate) fn open_at(at: &mut [u32; MAX_NUMBERS], len: usize, to: usize, x: u32
 // Puts `x` into a list, at place `to`.
 pub(crate) fn insert_at(at: &mut [u32; MAX_NUMBERS], len: usize, to: usize, x: u32)
     requires { (sound_list (in_places len at.old) ≡ true) × (to ≤ len) × (len < max_numbers) }
-    ensures { in_places (len + 1) (after at) ≡ stored (inserted_at to x (listed (in_places len (before at)))) }
+    ensures { in_places (len + 1) at.new ≡ stored (inserted_at to x (listed (in_places len at.old))) }
 {
     open_at(at, len, to, x);
 }

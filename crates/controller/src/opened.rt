@@ -1,7 +1,6 @@
 // The received lists, opened for the tally: where each lies, how many numbers it has, and how many controllers sent it. The first is the own one, in
 // the state; the others are read where they lie in the tray.
 ghost use Rattle.std.specs.Prelude.{true, ◌≡◌, ◌≤◌, ◌<◌, length, get_or, take};
-ghost use Rattle.wire.specs.Lent.{before, after};
 ghost use Rattle.wire.specs.Frame.{content};
 ghost use Rattle.wire.specs.Limits.{max_numbers};
 ghost use Rattle.wire.specs.Words.{words_at};
@@ -22,7 +21,7 @@ pub(crate) const END: usize = 4294967296;
 pub(crate) const MAX_LISTS: usize = 65;
 
 // Where a list lies in the tray, and how many numbers it has.
-#[derive(Drop)]
+#[derive(Clone, Copy)]
 pub(crate) struct Span {
     pub start: usize,
     pub count: usize,
@@ -30,7 +29,7 @@ pub(crate) struct Span {
 
 // How many numbers bytes list in a round; 0 where they are void.
 fn list_count(bytes: &[u8], round: u32) -> usize
-    ensures { result ≡ length (list_in (content (before bytes) round)) }
+    ensures { result ≡ length (list_in (content bytes.now round)) }
 {
     if read_refusal(bytes, round) == 0 {
         number_count(bytes)
@@ -41,7 +40,7 @@ fn list_count(bytes: &[u8], round: u32) -> usize
 
 // The list of the frame that a note is of; an empty one where the frame is void or there is not one.
 fn list_of(tray: &[u8], note: u32, round: u32) -> Span
-    ensures { SpanOf (before tray) (list_in (read_in round (noted (before tray) note)))
+    ensures { SpanOf tray.now (list_in (read_in round (noted tray.now note)))
         result.start result.count }
 {
     let found = found_by(note);
@@ -58,7 +57,7 @@ fn list_of(tray: &[u8], note: u32, round: u32) -> Span
 // Whether the list that lies at a place of the tray has the numbers of the own list.
 fn same_list(tray: &[u8], start: usize, own: &[u32], count: usize) -> bool
     requires { (start < start_limit) × (count ≤ max_numbers) × (count ≤ length own.now) × NumbersIn tray.now start count }
-    ensures { result ≡ true → words_at (before tray) start count ≡ take count (before own) }
+    ensures { result ≡ true → words_at tray.now start count ≡ take count own.now }
 {
     let mut i = 0;
     while i < count {
@@ -80,7 +79,7 @@ pub(crate) fn number_in(
     i: usize,
 ) -> usize
     requires { Lies own.now tray.now j start count }
-    ensures { (result ≡ get_or (list_from (before own) (before tray) j start count) i end_mark) × (result ≤ end_mark) }
+    ensures { (result ≡ get_or (list_from own.now tray.now j start count) i end_mark) × (result ≤ end_mark) }
 {
     if i < count {
         if j == 0 {
@@ -107,7 +106,7 @@ fn place_list(
     len: usize,
 ) -> usize
     requires { Placeable round own.now tray.now starts.old counts.old len last slot }
-    ensures { PlacesIn round own tray note len starts counts result }
+    ensures { PlacesIn round own.now tray.now note len starts.old counts.old starts.new counts.new result }
 {
     if note == NO_FRAME {
         return 0;
@@ -141,7 +140,7 @@ pub(crate) fn open_lists(
     sent: &mut [usize],
 ) -> usize
     requires { Openable fields own.now tray.now notes.now starts.old counts.old sent.old }
-    ensures { OpensAll fields (before own) (before tray) (before notes) (after starts) (after counts) (after sent) result }
+    ensures { OpensAll fields own.now tray.now notes.now starts.new counts.new sent.new result }
 {
     counts[0] = sent_count(fields);
     let round = fields.round;

@@ -1,6 +1,5 @@
 // The own list, and how many of those heard sent the same one. Mostly all do.
 ghost use Rattle.std.specs.Prelude.{true, ◌≡◌, ℕ, ◌≤◌, length};
-ghost use Rattle.wire.specs.Lent.{before, after};
 ghost use Rattle.wire.specs.Frame.{content};
 ghost use Rattle.wire.specs.Limits.{max_numbers, max_frame};
 ghost use Rattle.controller.specs.Received.{list_in};
@@ -18,7 +17,7 @@ use wire::write::lay_frame;
 // Whether a note is sure to be of the list that a frame has: of no frame, since who has no entry counts as having sent it, or of one with the same bytes.
 // Eight bytes list nothing, void or not.
 fn sent_list(frame: &[u8], tray: &[u8], note: u32) -> bool
-    ensures { (t : ℕ) → result ≡ true → list_under t (list_in (content (before frame) t)) (before tray) note ≡ list_in (content (before frame) t) }
+    ensures { (t : ℕ) → result ≡ true → list_under t (list_in (content frame.now t)) tray.now note ≡ list_in (content frame.now t) }
 {
     if note == NO_FRAME {
         return true;
@@ -40,7 +39,7 @@ fn sent_list(frame: &[u8], tray: &[u8], note: u32) -> bool
 // How many of the first `h` notes are sure to be of the list that a frame has.
 fn count_list(h: usize, frame: &[u8], tray: &[u8], notes: &[u32; MAX_NUMBERS]) -> usize
     requires { h ≤ max_numbers }
-    ensures { SharesList h (before frame) (before tray) (before notes) result }
+    ensures { SharesList h frame.now tray.now notes.now result }
 {
     let mut count = 0;
     let mut j = 0;
@@ -56,7 +55,7 @@ fn count_list(h: usize, frame: &[u8], tray: &[u8], notes: &[u32; MAX_NUMBERS]) -
 // Writes the own frame, without an opinion, as one that is silent counts as having sent it; returns its length.
 fn write_own(fields: Fields, own: &[u32], out: &mut [u8]) -> usize
     requires { (sent_count fields ≤ length own.now) × (max_frame ≤ length out.old) }
-    ensures { WritesOwn fields (before own) (after out) result }
+    ensures { WritesOwn fields own.now out.new result }
 {
     let bit = if kind_of(fields.round) == TURN {
         NO_BIT
@@ -75,7 +74,7 @@ pub(crate) fn count_own(
     notes: &[u32; MAX_NUMBERS],
 ) -> usize
     requires { (fields.heard ≤ max_numbers) × (sent_count fields ≤ length own.now) }
-    ensures { AgreesOwn fields (before own) (before tray) (before notes) result }
+    ensures { AgreesOwn fields own.now tray.now notes.now result }
 {
     let mut room = [0u8; MAX_FRAME];
     let len = write_own(fields, own, &mut room);

@@ -1,6 +1,5 @@
 // What is received in a round: who is heard, and what the frame under each heard number says.
 ghost use Rattle.std.specs.Prelude.{true, cond, ◌≡◌, ℕ, ◌≤◌, eqb, replicate};
-ghost use Rattle.wire.specs.Lent.{before, after};
 ghost use Rattle.wire.specs.Frame.{content, kind_of, bit_in};
 ghost use Rattle.wire.specs.Heads.{Short, head_of};
 ghost use Rattle.wire.specs.Limits.{max_numbers};
@@ -11,7 +10,6 @@ ghost use Rattle.controller.specs.State.{sound_list};
 ghost use Rattle.controller.specs.Received.{senders, read_in};
 ghost use Rattle.controller.specs.Work.Received.{noted, others_only, HearsFrom, Hears};
 ghost use Rattle.controller.specs.Work.Received.{received_by, bit_under, Votes, CountsBits, AnyReady, sent_count, CountsFew};
-ghost use Rattle.controller.specs.Work.First.{Keeps};
 ghost use Rattle.controller.specs.Work.Lists.{in_places};
 
 use crate::lists::{ABSENT, find_near, insert_at, open_at, stands_before};
@@ -25,7 +23,7 @@ use wire::tray::{directory, entry_count, entry_place, entry_sender, part_of};
 // Whether no sender in the directory is 0 or the own number.
 pub(crate) fn senders_fit(tray: &[u8], own: u32) -> bool
     requires { well_formed tray.now ≡ true }
-    ensures { result ≡ others_only own (senders (entries (before tray))) }
+    ensures { result ≡ others_only own (senders (entries tray.now)) }
 {
     let entries = directory(tray);
     let count = entry_count(tray);
@@ -56,7 +54,7 @@ fn note_known(
     notes: &mut [u32; MAX_NUMBERS],
 ) -> usize
     requires { (well_formed tray.now ≡ true) × (sound_list (in_places len heard.now) ≡ true) × (notes.old ≡ replicate max_numbers no_frame) }
-    ensures { HearsFrom own (before tray) (listed (in_places len (before heard))) (in_places len (before heard)) (after notes) result }
+    ensures { HearsFrom own tray.now (listed (in_places len heard.now)) (in_places len heard.now) notes.new result }
 {
     let entries = directory(tray);
     let mut place = len;
@@ -91,8 +89,8 @@ fn hear_new(
     notes: &mut [u32; MAX_NUMBERS],
 ) -> usize
     requires { (well_formed tray.now ≡ true) × HearsFrom own tray.now (listed (in_places len heard.old)) (in_places len heard.old) notes.old left }
-    ensures { Hears own (before tray) (listed (in_places len (before heard))) result (after heard) (after notes)
-        × (result ≤ len → after heard ≡ before heard) }
+    ensures { Hears own tray.now (listed (in_places len heard.old)) result heard.new notes.new
+        × (result ≤ len → heard.new ≡ heard.old) }
 {
     let entries = directory(tray);
     let mut n = len;
@@ -125,24 +123,21 @@ fn hear_new(
 }
 
 // Puts the directory's senders into heard, makes a note on the frames of each, and returns how many are heard: 65 where that would be more than 64, or a
-// sender does not fit. Before heard changes it is copied to `known`.
+// sender does not fit. It goes from the directory's end to its front, so that of equal copies the first is kept.
 pub(crate) fn hear(
     tray: &[u8],
     own: u32,
     heard: &mut [u32; MAX_NUMBERS],
     len: usize,
-    known: &mut [u32; MAX_NUMBERS],
     notes: &mut [u32; MAX_NUMBERS],
 ) -> usize
     requires { (well_formed tray.now ≡ true) × (sound_list (in_places len heard.old) ≡ true) × (notes.old ≡ replicate max_numbers no_frame) }
-    ensures { Hears own (before tray) (listed (in_places len (before heard))) result (after heard) (after notes)
-        × Keeps len result (before heard) (after known) (after heard) }
+    ensures { Hears own tray.now (listed (in_places len heard.old)) result heard.new notes.new }
 {
     let left = note_known(tray, own, heard, len, notes);
     if left == 0 {
         return len;
     }
-    *known = *heard;
     hear_new(tray, own, heard, len, left, notes)
 }
 
@@ -151,7 +146,7 @@ const NOTHING_SAID: u8 = 3;
 
 // The bit that bytes say in a round.
 pub(crate) fn frame_bit(bytes: &[u8], round: u32) -> u8
-    ensures { result ≡ bit_in (content (before bytes) round) }
+    ensures { result ≡ bit_in (content bytes.now round) }
 {
     let read = read_frame(bytes, round);
     if let Read::Valid(frame) = read {
@@ -164,7 +159,7 @@ pub(crate) fn frame_bit(bytes: &[u8], round: u32) -> u8
 
 // The bit of the frame that a note is of, read in a round.
 fn noted_bit(tray: &[u8], note: u32, round: u32) -> u8
-    ensures { result ≡ bit_in (read_in round (noted (before tray) note)) }
+    ensures { result ≡ bit_in (read_in round (noted tray.now note)) }
 {
     let found = found_by(note);
     let Found::At(offset, len) = found else {
@@ -175,7 +170,7 @@ fn noted_bit(tray: &[u8], note: u32, round: u32) -> u8
 
 // The bit received with a note: `absent` where there is no entry, 3 where the frame is void or there are several.
 pub(crate) fn received_bit(round: u32, absent: u8, tray: &[u8], note: u32) -> u8
-    ensures { result ≡ bit_under round absent (before tray) note }
+    ensures { result ≡ bit_under round absent tray.now note }
 {
     if note != NO_FRAME {
         noted_bit(tray, note, round)
@@ -203,7 +198,7 @@ pub(crate) fn one_if(bit: u8, other: u8) -> usize
 }
 
 // How many of those heard sent each of the two bits.
-#[derive(Drop)]
+#[derive(Clone, Copy)]
 pub(crate) struct Counts {
     pub zeros: usize,
     pub ones: usize,
@@ -212,7 +207,7 @@ pub(crate) struct Counts {
 // The header received with a note in a round whose frames list nothing, as one number: `own` where there is no entry, 0 where there is not one frame of eight
 // bytes. Such a frame is the one that says 0, the one that says 1, or neither of them.
 fn short_head(own: u64, tray: &[u8], note: u32) -> u64
-    ensures { (t d : ℕ) → Short t → own ≡ head_of t d → Votes t d (before tray) note result }
+    ensures { (t d : ℕ) → Short t → own ≡ head_of t d → Votes t d tray.now note result }
 {
     if note == NO_FRAME {
         return own;
@@ -234,7 +229,7 @@ fn one_if_head(head: u64, other: u64) -> usize
 pub(crate) fn count_bits(fields: Fields, tray: &[u8], notes: &[u32; MAX_NUMBERS]) -> Counts
     requires { fields.heard ≤ max_numbers }
     ensures { CountsFew fields.heard result
-        × AnyReady fields tray notes (λ s b. Short s.round → CountsBits (kind_of s.round) (received_by s b) result) }
+        × AnyReady fields tray.now notes.now (λ s b. Short s.round → CountsBits (kind_of s.round) (received_by s b) result) }
 {
     let own = head_of(fields.round, fields.said);
     let zero = head_of(fields.round, 0);

@@ -1,6 +1,5 @@
 // The coordinator rotation: the roster, and whom the controller names king.
 ghost use Rattle.std.specs.Prelude.{[], ◌≡◌, ◌≤◌, get_or};
-ghost use Rattle.wire.specs.Lent.{before, after};
 ghost use Rattle.wire.specs.Frame.{kind_of};
 ghost use Rattle.wire.specs.Limits.{max_numbers};
 ghost use Rattle.wire.specs.Numbers.{stored, listed};
@@ -21,7 +20,7 @@ pub(crate) fn roster(
     list: &mut [u32; MAX_NUMBERS],
 ) -> usize
     requires { (fields.heard ≤ max_numbers) × (list.old ≡ (stored []).at) }
-    ensures { WhereReady fields heard tray notes (λ s b. kind_of s.round ≡ 1 → in_places result (after list) ≡ stored (roster (received_by s b))) }
+    ensures { WhereReady fields heard.now tray.now notes.now (λ s b. kind_of s.round ≡ 1 → in_places result list.new ≡ stored (roster (received_by s b))) }
 {
     let mut k = 0;
     let mut j = 0;
@@ -40,7 +39,7 @@ pub(crate) fn roster(
 // The candidate at the phase's place, 0 where there is none.
 pub(crate) fn king_at(candidates: &[u32; MAX_NUMBERS], len: usize, phase: usize) -> u32
     requires { len ≤ max_numbers }
-    ensures { result ≡ get_or (listed (in_places len (before candidates))) phase 0 }
+    ensures { result ≡ get_or (listed (in_places len candidates.now)) phase 0 }
 {
     if phase < len { candidates[phase] } else { 0 }
 }

@@ -1,8 +1,7 @@
 // The soundness of a state, document 01's "sound".
 ghost use Rattle.std.specs.Prelude.{cond, ◌≡◌, length};
-ghost use Rattle.wire.specs.Lent.{before};
 ghost use Rattle.wire.specs.Limits.{max_numbers};
-ghost use Rattle.controller.specs.Fields.{whole_of, state_before, whole_before, bare};
+ghost use Rattle.controller.specs.Fields.{whole_of, state_of, bare};
 ghost use Rattle.controller.specs.Lists.{count_if};
 ghost use Rattle.controller.specs.State.{sound_list, sound, sound_said};
 ghost use Rattle.controller.specs.Work.First.{is_zero};
@@ -25,7 +24,7 @@ fn zero_place(x: u32) -> u32
 // How many of the 64 places are 0. They are counted in words of their own width, so that the loop takes four at a time.
 fn zero_places(at: &[u32]) -> u32
     requires { length at.now ≡ max_numbers }
-    ensures { result ≡ count_if is_zero (before at) }
+    ensures { result ≡ count_if is_zero at.now }
 {
     let mut zeros = 0;
     let mut i = 0;
@@ -39,7 +38,7 @@ fn zero_places(at: &[u32]) -> u32
 // Whether the numbers rise and the unused places are 0: the stored form of a list. Numbers that rise are not 0, so if as many places are 0 as are unused, they
 // are those.
 fn is_list(at: &[u32; MAX_NUMBERS], len: usize) -> bool
-    ensures { result ≡ sound_list (in_places len (before at)) }
+    ensures { result ≡ sound_list (in_places len at.now) }
 {
     // The making of a slice shows how many places an array has.
     let places = &at[..];
@@ -85,7 +84,7 @@ fn lists_sound(
     candidates: &[u32; MAX_NUMBERS],
     echoes: &[u32; MAX_NUMBERS],
 ) -> bool
-    ensures { result ≡ lists_sound (state_before fields heard candidates echoes) }
+    ensures { result ≡ lists_sound (state_of fields heard.now candidates.now echoes.now) }
 {
     is_list(heard, fields.heard)
         & is_list(candidates, fields.candidates)
@@ -100,7 +99,7 @@ pub fn is_sound(
     echoes: &[u32; MAX_NUMBERS],
     since: &[u8; MAX_NUMBERS],
 ) -> bool
-    ensures { result ≡ sound (whole_before fields heard candidates echoes since) }
+    ensures { result ≡ sound (whole_of fields heard.now candidates.now echoes.now since.now) }
 {
     if lists_sound(fields, heard, candidates, echoes) {
         let place = place_in(heard, fields.heard, fields.own);

@@ -2,7 +2,7 @@
 use wire::frame::Numbers;
 use wire::limits::MAX_NUMBERS;
 
-#[derive(Drop)]
+#[derive(Clone, Copy)]
 pub struct State {
     // The own number.
     pub own: u32,
@@ -26,7 +26,7 @@ pub struct State {
 }
 
 // The refusal, 0 for none; the state after the call; the length of the frame written, 0 when refused and when the call decides.
-#[derive(Drop)]
+#[derive(Clone, Copy)]
 pub struct Answer {
     pub refusal: u8,
     pub state: State,
@@ -35,7 +35,7 @@ pub struct Answer {
 
 // A state but for the places of its lists and of its record, which are lent beside it: a call that works in place copies none of them. The order leaves no
 // gap between the fields, so that they are copied as whole words.
-#[derive(Drop)]
+#[derive(Clone, Copy)]
 pub struct Fields {
     pub own: u32,
     pub round: u32,
@@ -52,7 +52,7 @@ pub struct Fields {
 
 // What a call in place returns: the fields after the call; the length of the frame written, 0 when refused and when the call decides; the
 // refusal, 0 for none.
-#[derive(Drop)]
+#[derive(Clone, Copy)]
 pub struct Worked {
     pub fields: Fields,
     pub length: usize,

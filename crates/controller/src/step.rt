@@ -1,10 +1,9 @@
 // One step: what a tray makes of a state whose fields and lists are lent. All senders of the tray are heard already.
 ghost use Rattle.std.specs.Prelude.{List, [], ◌≡◌, ℕ, ◌+◌, ◌≤◌, ◌<◌};
-ghost use Rattle.wire.specs.Lent.{before, after};
 ghost use Rattle.wire.specs.Frame.{kind_of};
 ghost use Rattle.wire.specs.Limits.{max_numbers, last_round};
 ghost use Rattle.wire.specs.Numbers.{stored};
-ghost use Rattle.controller.specs.Fields.{state_of, state_given};
+ghost use Rattle.controller.specs.Fields.{state_of};
 ghost use Rattle.controller.specs.Work.Received.{Ready, WhereReady, CountsFew};
 ghost use Rattle.controller.specs.Work.Step.{named_state, Due, MakesCounted, MakesGrown, MakesParts, MakesEchoes};
 
@@ -17,7 +16,7 @@ use wire::frame::kind_of;
 use wire::limits::{MAX_NUMBERS, NO_BIT, PROPOSE, ROSTER, VALUE};
 
 // The fields that a step makes; `fits` is false where candidates or echoes would be more than 64.
-#[derive(Drop)]
+#[derive(Clone, Copy)]
 pub(crate) struct Made {
     pub fields: Fields,
     pub fits: bool,
@@ -26,7 +25,7 @@ pub(crate) struct Made {
 // (c): the fields `next`, whose lists and bit are made, with the decision or the king that follows. A controller that decides says nothing any more.
 fn named(next: Fields, candidates: &[u32; MAX_NUMBERS], phase: usize) -> Fields
     requires { next.candidates ≤ max_numbers }
-    ensures { (h e : List ℕ) → state_of result h (before candidates) e ≡ named_state (state_of next h (before candidates) e) phase }
+    ensures { (h e : List ℕ) → state_of result h candidates.now e ≡ named_state (state_of next h candidates.now e) phase }
 {
     let mut made = next;
     made.king = king_at(candidates, next.candidates, phase);
@@ -45,7 +44,7 @@ fn make_roster(
     echoes: &mut [u32; MAX_NUMBERS],
 ) -> Fields
     requires { (fields.heard ≤ max_numbers) × (fields.round < last_round) × (echoes.old ≡ (stored []).at) }
-    ensures { WhereReady fields heard tray notes (λ s b. kind_of (s.round + 1) ≡ 2 → MakesEchoes s b result (after echoes)) }
+    ensures { WhereReady fields heard.now tray.now notes.now (λ s b. kind_of (s.round + 1) ≡ 2 → MakesEchoes s b result echoes.new) }
 {
     let mut next = fields;
     next.echoes = roster(fields, heard, tray, notes, echoes);
@@ -79,7 +78,7 @@ fn make_turn(fields: Fields, counts: Counts) -> Fields
 // The fields with the lists that have grown and the bit that was taken; those that were where the lists do not fit.
 fn grown(fields: Fields, lists: Lists, bit: u8, candidates: &[u32; MAX_NUMBERS]) -> Made
     requires { (fields.round < last_round) × (lists.candidates ≤ max_numbers) }
-    ensures { MakesGrown fields lists bit (before candidates) result }
+    ensures { MakesGrown fields lists bit candidates.now result }
 {
     let mut next = fields;
     let fits = lists.fits;
@@ -110,8 +109,8 @@ fn make_value(
     tray: &[u8],
     notes: &[u32; MAX_NUMBERS],
 ) -> Made
-    requires { Due 3 (state_given fields heard candidates echoes) tray.now notes.now }
-    ensures { MakesParts fields heard candidates echoes tray result }
+    requires { Due 3 (state_of fields heard.now candidates.old echoes.old) tray.now notes.now }
+    ensures { MakesParts fields heard.now candidates.old echoes.old tray.now result candidates.new echoes.new }
 {
     let bit = bit_taken(fields, heard, tray, notes);
     let lists = grow(fields, heard, candidates, echoes, tray, notes);
@@ -127,8 +126,8 @@ pub(crate) fn step(
     tray: &[u8],
     notes: &[u32; MAX_NUMBERS],
 ) -> Made
-    requires { Ready (state_given fields heard candidates echoes) tray.now notes.now × (fields.round < last_round) }
-    ensures { MakesParts fields heard candidates echoes tray result }
+    requires { Ready (state_of fields heard.now candidates.old echoes.old) tray.now notes.now × (fields.round < last_round) }
+    ensures { MakesParts fields heard.now candidates.old echoes.old tray.now result candidates.new echoes.new }
 {
     let kind = kind_of(fields.round + 1);
     if kind == ROSTER {

@@ -1,9 +1,8 @@
 // The tally of the received lists, and what it makes of echoes and candidates. The lists rise, so one walk goes along all of them together, least number
 // first. It passes each place of a list once, and a number is settled as soon as it is passed.
 ghost use Rattle.std.specs.Prelude.{false, [], ◌≡◌};
-ghost use Rattle.wire.specs.Lent.{before, after};
 ghost use Rattle.wire.specs.Numbers.{stored};
-ghost use Rattle.controller.specs.Fields.{state_before, state_given};
+ghost use Rattle.controller.specs.Fields.{state_of};
 ghost use Rattle.controller.specs.Work.Received.{Ready};
 ghost use Rattle.controller.specs.Work.Tally.{GrowsLists, Settleable, Walkable, OneList, Tallies, SettlesNext, SortsAll, SortsOne};
 ghost use Rattle.controller.specs.Work.Heads.{Roomy};
@@ -17,7 +16,7 @@ use crate::state::Fields;
 use wire::limits::MAX_NUMBERS;
 
 // The lengths of echoes and candidates after a step; `fits` is false where one of them would have more than 64 numbers.
-#[derive(Drop)]
+#[derive(Clone, Copy)]
 pub(crate) struct Lists {
     pub echoes: usize,
     pub candidates: usize,
@@ -26,7 +25,7 @@ pub(crate) struct Lists {
 
 // What the numbers passed so far make: how many are echoed, how many candidates there are with those that join, and how many of these are surely below
 // the next number. `fits` is false where there are too many.
-#[derive(Drop)]
+#[derive(Clone, Copy)]
 pub(crate) struct Settled {
     pub echoed: usize,
     pub candidates: usize,
@@ -55,7 +54,7 @@ fn settle(
     candidates: &mut [u32; MAX_NUMBERS],
 ) -> Settled
     requires { Settleable settled x count h echoed.old candidates.old }
-    ensures { SettlesNext settled x count h echoed candidates result }
+    ensures { SettlesNext settled x count h echoed.old candidates.old result echoed.new candidates.new }
 {
     if 3 * count < h {
         return settled;
@@ -103,8 +102,8 @@ fn settle_all(
     echoed: &mut [u32; MAX_NUMBERS],
     candidates: &mut [u32; MAX_NUMBERS],
 ) -> Settled
-    requires { Walkable own tray starts counts sent len h known echoed candidates × Roomy tree.old nexts.old at.old }
-    ensures { SortsAll own tray starts counts sent len h known echoed candidates result }
+    requires { Walkable own.now tray.now starts.now counts.now sent.now len h known echoed.old candidates.old × Roomy tree.old nexts.old at.old }
+    ensures { SortsAll own.now tray.now starts.now counts.now sent.now len h known candidates.old result echoed.new candidates.new }
 {
     line_up(own, tray, starts, counts, len, tree, nexts, at);
     let mut settled = Settled {
@@ -140,8 +139,8 @@ fn walk(
     echoed: &mut [u32; MAX_NUMBERS],
     candidates: &mut [u32; MAX_NUMBERS],
 ) -> Settled
-    requires { Walkable own tray starts counts sent len h known echoed candidates }
-    ensures { SortsAll own tray starts counts sent len h known echoed candidates result }
+    requires { Walkable own.now tray.now starts.now counts.now sent.now len h known echoed.old candidates.old }
+    ensures { SortsAll own.now tray.now starts.now counts.now sent.now len h known candidates.old result echoed.new candidates.new }
 {
     let mut tree = [0usize; 2 * MAX_LISTS];
     let mut nexts = [0usize; MAX_LISTS];
@@ -162,8 +161,8 @@ fn settle_own(
     echoed: &mut [u32; MAX_NUMBERS],
     candidates: &mut [u32; MAX_NUMBERS],
 ) -> Settled
-    requires { OneList own len count h known echoed candidates }
-    ensures { SortsOne own len count h known echoed candidates result }
+    requires { OneList own.now len count h known echoed.old candidates.old }
+    ensures { SortsOne own.now len count h known candidates.old result echoed.new candidates.new }
 {
     let mut settled = Settled {
         echoed: 0,
@@ -193,8 +192,8 @@ fn tally_all(
     echoed: &mut [u32; MAX_NUMBERS],
     candidates: &mut [u32; MAX_NUMBERS],
 ) -> Settled
-    requires { Ready (state_given fields heard candidates own) tray.now notes.now × (echoed.old ≡ (stored []).at) }
-    ensures { Tallies (state_before fields heard candidates own) (before tray) (after echoed) (after candidates) result }
+    requires { Ready (state_of fields heard.now candidates.old own.now) tray.now notes.now × (echoed.old ≡ (stored []).at) }
+    ensures { Tallies (state_of fields heard.now candidates.old own.now) tray.now echoed.new candidates.new result }
 {
     let mut starts = [0usize; MAX_LISTS];
     let mut counts = [0usize; MAX_LISTS];
@@ -233,8 +232,8 @@ fn tally(
     echoed: &mut [u32; MAX_NUMBERS],
     candidates: &mut [u32; MAX_NUMBERS],
 ) -> Settled
-    requires { Ready (state_given fields heard candidates own) tray.now notes.now × (echoed.old ≡ (stored []).at) }
-    ensures { Tallies (state_before fields heard candidates own) (before tray) (after echoed) (after candidates) result }
+    requires { Ready (state_of fields heard.now candidates.old own.now) tray.now notes.now × (echoed.old ≡ (stored []).at) }
+    ensures { Tallies (state_of fields heard.now candidates.old own.now) tray.now echoed.new candidates.new result }
 {
     let h = fields.heard;
     let equal = count_own(fields, own, tray, notes);
@@ -266,8 +265,8 @@ pub(crate) fn grow(
     tray: &[u8],
     notes: &[u32; MAX_NUMBERS],
 ) -> Lists
-    requires { Ready (state_given fields heard candidates echoes) tray.now notes.now }
-    ensures { GrowsLists (state_before fields heard candidates echoes) (before tray) result (after candidates) (after echoes) }
+    requires { Ready (state_of fields heard.now candidates.old echoes.old) tray.now notes.now }
+    ensures { GrowsLists (state_of fields heard.now candidates.old echoes.old) tray.now result candidates.new echoes.new }
 {
     let mut echoed = [0u32; MAX_NUMBERS];
     let known = *candidates;

@@ -3,11 +3,9 @@
 --     made               the state of an answer that is not refused is the one promised, so that what holds of that holds of it
 --     promise_handed     an answer that meets the controller's promise, handed over, meets the host's
 --     image_refused    a refusal under 1 stores nothing
-use Prim.Native.Nat.{ℕ}
-use mathlib.Core.Bool.{Bool, true, false, cond}
-use mathlib.Core.List.{List}
-use mathlib.Core.Path.{◌≡◌, refl, sym, ap, ◌∙◌}
-use lib.Dec.{eqb}
+use Rattle.std.specs.Prelude.{ℕ, Bool, true, false, cond, List, refl, eqb}
+use Rattle.std.proofs.Math.Path.{◌≡◌, ◌∙◌}
+use Rattle.std.proofs.Common.{sym, ap}
 use Rattle.controller.specs.Calls.{Promise}
 use Rattle.controller.specs.Fields.{whole_of, answer_of}
 use Rattle.controller.specs.State.{View, stored_state}

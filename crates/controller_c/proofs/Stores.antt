@@ -5,9 +5,10 @@
 --     sets_over       one as long as the part of a list that it starts with takes its place
 use Prim.Native.Nat.{ℕ, zero, suc, ◌+◌, ◌≤◌}
 use mathlib.Core.List.{List, [], ◌∷◌, ◌++◌, append-nil}
-use mathlib.Core.Path.{◌≡◌, refl, ap, ◌∙◌}
-use native.Mathlib.Omega.{arith}
-use lib.ListN.{length, set, drop, drop_of_length-le}
+use Rattle.std.proofs.Math.Path.{◌≡◌, ◌∙◌}
+use Rattle.std.specs.Prelude.{refl, length, set, drop}
+use Rattle.std.proofs.Common.{ap, arith}
+use Rattle.std.proofs.Math.ListN.{drop_of_length-le}
 use lib.Seq.{sets, sets-eq}
 use Rattle.wire.specs.Laws.Stores.{sets_join}
 

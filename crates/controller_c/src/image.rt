@@ -2,9 +2,8 @@
 // count over words in the machine's order is a plain copy, which the compiler makes wide.
 ghost use Rattle.std.specs.Prelude.{true, [], ◌≡◌, ◌+◌, ◌*◌, ◌≤◌, length, drop};
 ghost use Rattle.std.proofs.lemmas.List.Edits.{sets};
-ghost use Rattle.wire.specs.Lent.{before, after};
 ghost use Rattle.wire.specs.Limits.{max_numbers, number_width};
-ghost use Rattle.controller.specs.Fields.{state_of, whole_given, whole_of, whole_before};
+ghost use Rattle.controller.specs.Fields.{state_of, whole_of};
 ghost use Rattle.controller.specs.State.{sound};
 ghost use Rattle.controller_c.specs.Image.{image_bytes, heard_at, since_at, reserved_at, list_width, Sized, SizedRotation, head_bytes, list_bytes, zeros_from};
 ghost use Rattle.controller_c.specs.Image.{laid_out, with_rotation, places_at, list_at, rounds_at, taken_apart, zeros, shaped, sound_image};
@@ -24,7 +23,7 @@ use wire::limits::{MAX_NUMBERS, NUMBER_WIDTH, VALUE};
 // Whether the reserved bytes are 0. They are joined by `|`, so that the loop has no way out to wait for.
 fn reserved_zero(image: &[u8]) -> bool
     requires { length image.now ≡ image_bytes }
-    ensures { result ≡ zeros (drop reserved_at (before image)) }
+    ensures { result ≡ zeros (drop reserved_at image.now) }
 {
     let mut all = 0;
     let mut i = RESERVED_AT;
@@ -40,7 +39,7 @@ fn reserved_zero(image: &[u8]) -> bool
 // The places of a list.
 fn take_places(image: &[u8], from: usize) -> [u32; MAX_NUMBERS]
     requires { from + number_width * max_numbers ≤ length image.now }
-    ensures { result ≡ places_at (before image) from }
+    ensures { result ≡ places_at image.now from }
 {
     let mut at = [0u32; MAX_NUMBERS];
     let mut i = 0;
@@ -54,7 +53,7 @@ fn take_places(image: &[u8], from: usize) -> [u32; MAX_NUMBERS]
 // Reads a list's places, and returns its length.
 fn take_list(image: &[u8], from: usize, at: &mut [u32; MAX_NUMBERS]) -> usize
     requires { from + list_width ≤ length image.now }
-    ensures { record { len = result; at = after at } ≡ list_at (before image) from }
+    ensures { record { len = result; at = at.new } ≡ list_at image.now from }
 {
     *at = take_places(image, from + COUNT_BYTES);
     word(image, from) as usize
@@ -63,7 +62,7 @@ fn take_list(image: &[u8], from: usize, at: &mut [u32; MAX_NUMBERS]) -> usize
 // The record, a byte for each place.
 pub(crate) fn take_rounds(image: &[u8]) -> [u8; MAX_NUMBERS]
     requires { length image.now ≡ image_bytes }
-    ensures { result ≡ rounds_at (before image) }
+    ensures { result ≡ rounds_at image.now }
 {
     let mut rounds = [0u8; MAX_NUMBERS];
     let mut i = 0;
@@ -82,7 +81,7 @@ pub(crate) fn take_apart(
     echoes: &mut [u32; MAX_NUMBERS],
 ) -> Fields
     requires { length image.now ≡ image_bytes }
-    ensures { whole_of result (after heard) (after candidates) (after echoes) (rounds_at (before image)) ≡ taken_apart (before image) }
+    ensures { whole_of result heard.new candidates.new echoes.new (rounds_at image.now) ≡ taken_apart image.now }
 {
     let heard_len = take_list(image, HEARD_AT, heard);
     let candidates_len = take_list(image, CANDIDATES_AT, candidates);
@@ -103,13 +102,13 @@ pub(crate) fn take_apart(
 
 // What is left to test is the state.
 pub(crate) fn is_shaped(image: &[u8]) -> bool
-    ensures { result ≡ shaped (before image) }
+    ensures { result ≡ shaped image.now }
 {
     image.len() == IMAGE_BYTES && reserved_zero(image)
 }
 
 pub(crate) fn is_sound_image(image: &[u8]) -> bool
-    ensures { result ≡ sound_image (before image) }
+    ensures { result ≡ sound_image image.now }
 {
     if is_shaped(image) {
         let mut heard = [0u32; MAX_NUMBERS];
@@ -127,7 +126,7 @@ pub(crate) fn is_sound_image(image: &[u8]) -> bool
 
 fn put_head(image: &mut [u8], fields: Fields)
     requires { heard_at ≤ length image.old }
-    ensures { after image ≡ sets (before image) 0 (head_bytes (state_of fields [] [] [])) }
+    ensures { image.new ≡ sets image.old 0 (head_bytes (state_of fields [] [] [])) }
 {
     put_word(image, OWN_AT, fields.own);
     put_word(image, ROUND_AT, fields.round);
@@ -140,7 +139,7 @@ fn put_head(image: &mut [u8], fields: Fields)
 
 fn put_places(image: &mut [u8], from: usize, at: &[u32; MAX_NUMBERS])
     requires { (from + number_width * max_numbers ≤ length image.old) × (length at.now ≡ max_numbers) }
-    ensures { after image ≡ sets (before image) from (numbers_bytes (before at)) }
+    ensures { image.new ≡ sets image.old from (numbers_bytes at.now) }
 {
     let mut i = 0;
     while i < MAX_NUMBERS {
@@ -151,7 +150,7 @@ fn put_places(image: &mut [u8], from: usize, at: &[u32; MAX_NUMBERS])
 
 fn put_list(image: &mut [u8], from: usize, at: &[u32; MAX_NUMBERS], len: usize)
     requires { Sized (record { len = len; at = at.now }) × (from + list_width ≤ length image.old) }
-    ensures { after image ≡ sets (before image) from (list_bytes (record { len = len; at = before at })) }
+    ensures { image.new ≡ sets image.old from (list_bytes (record { len = len; at = at.now })) }
 {
     put_word(image, from, len as u32);
     put_places(image, from + COUNT_BYTES, at);
@@ -165,7 +164,7 @@ fn put_rotation(
     echoes: &[u32; MAX_NUMBERS],
 )
     requires { SizedRotation fields candidates.now echoes.now × (since_at ≤ length image.old) }
-    ensures { after image ≡ with_rotation (state_of fields [] (before candidates) (before echoes)) (before image) }
+    ensures { image.new ≡ with_rotation (state_of fields [] candidates.now echoes.now) image.old }
 {
     put_list(image, CANDIDATES_AT, candidates, fields.candidates);
     put_list(image, ECHOES_AT, echoes, fields.echoes);
@@ -173,7 +172,7 @@ fn put_rotation(
 
 fn put_rounds(image: &mut [u8], since: &[u8; MAX_NUMBERS])
     requires { (length since.now ≡ max_numbers) × (reserved_at ≤ length image.old) }
-    ensures { after image ≡ sets (before image) since_at (before since) }
+    ensures { image.new ≡ sets image.old since_at since.now }
 {
     let rounds = *since;
     let mut i = 0;
@@ -185,7 +184,7 @@ fn put_rounds(image: &mut [u8], since: &[u8; MAX_NUMBERS])
 
 fn clear_reserved(image: &mut [u8])
     requires { length image.old ≡ image_bytes }
-    ensures { after image ≡ sets (before image) reserved_at (zeros_from reserved_at) }
+    ensures { image.new ≡ sets image.old reserved_at (zeros_from reserved_at) }
 {
     let mut i = RESERVED_AT;
     while i < IMAGE_BYTES {
@@ -203,8 +202,8 @@ pub(crate) fn lay_out(
     since: &[u8; MAX_NUMBERS],
     image: &mut [u8],
 )
-    requires { (sound (whole_given fields heard candidates echoes since) ≡ true) × (length image.old ≡ image_bytes) }
-    ensures { after image ≡ laid_out (whole_before fields heard candidates echoes since) }
+    requires { (sound (whole_of fields heard.now candidates.now echoes.now since.now) ≡ true) × (length image.old ≡ image_bytes) }
+    ensures { image.new ≡ laid_out (whole_of fields heard.now candidates.now echoes.now since.now) }
 {
     put_head(image, fields);
     put_list(image, HEARD_AT, heard, fields.heard);
@@ -224,7 +223,7 @@ fn renew_heard(
     since: &[u8; MAX_NUMBERS],
 )
     requires { Sized (record { len = fields.heard; at = heard.now }) × (length since.now ≡ max_numbers) × (reserved_at ≤ length image.old) }
-    ensures { after image ≡ renewed_heard known (whole_of fields (before heard) [] [] (before since)) (before image) }
+    ensures { image.new ≡ renewed_heard known (whole_of fields heard.now [] [] since.now) image.old }
 {
     let len = fields.heard;
     if len != known {
@@ -241,7 +240,7 @@ fn renew_rotation(
     echoes: &[u32; MAX_NUMBERS],
 )
     requires { SizedRotation fields candidates.now echoes.now × (since_at ≤ length image.old) }
-    ensures { after image ≡ renewed_rotation (state_of fields [] (before candidates) (before echoes)) (before image) }
+    ensures { image.new ≡ renewed_rotation (state_of fields [] candidates.now echoes.now) image.old }
 {
     if kind_of(fields.round) <= VALUE {
         put_rotation(image, fields, candidates, echoes);
@@ -259,8 +258,8 @@ pub(crate) fn lay_over(
     since: &[u8; MAX_NUMBERS],
     image: &mut [u8],
 )
-    requires { LaysOver known (whole_given fields heard candidates echoes since) image.old }
-    ensures { after image ≡ laid_out (whole_before fields heard candidates echoes since) }
+    requires { LaysOver known (whole_of fields heard.now candidates.now echoes.now since.now) image.old }
+    ensures { image.new ≡ laid_out (whole_of fields heard.now candidates.now echoes.now since.now) }
 {
     put_head(image, fields);
     renew_heard(image, known, fields, heard, since);

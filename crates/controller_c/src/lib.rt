@@ -1,8 +1,9 @@
 // The calls that a host makes from C, on the image of a state that the host keeps: docs/IMAGE.md.
+#![tactic(auto)]
+
 ghost use Rattle.std.specs.Prelude.{cond, ◌≡◌, ◌≤◌, length, get_or};
 ghost use Rattle.wire.specs.Numbers.{listed};
 ghost use Rattle.wire.specs.Frame.{read_refusal};
-ghost use Rattle.wire.specs.Lent.{before, after};
 ghost use Rattle.controller.specs.Fields.{answer_of};
 ghost use Rattle.controller.specs.State.{first_rounds};
 ghost use Rattle.controller_c.specs.Calls.{StartImagePromise, TrayImagePromise, field_of, HandsOver, HandedOver};
@@ -36,7 +37,7 @@ fn hand_over(
     written: &mut usize,
 ) -> u8
     requires { HandsOver (answer_of worked heard.now candidates.now echoes.now since.now) (length image.old) }
-    ensures { HandedOver (answer_of worked (before heard) (before candidates) (before echoes) (before since)) (before image) result (after image) (after written) }
+    ensures { HandedOver (answer_of worked heard.now candidates.now echoes.now since.now) image.old result image.new written.new }
 {
     *written = worked.length;
     let refusal = worked.refusal;
@@ -49,7 +50,7 @@ fn hand_over(
 
 // Refuses what is no image, under 1.
 fn no_image(written: &mut usize) -> u8
-    ensures { (result ≡ 1) × (after written ≡ 0) }
+    ensures { (result ≡ 1) × (written.new ≡ 0) }
 {
     *written = 0;
     1
@@ -64,7 +65,7 @@ pub extern "C" fn controller_start(
     out: &mut [u8],
     written: &mut usize,
 ) -> u8
-    ensures { StartImagePromise number bit (before image) (before out) result (after image) (after out) (after written) }
+    ensures { StartImagePromise number bit image.old out.old result image.new out.new written.new }
 {
     if image.len() == IMAGE_BYTES {
         let answer = start(number, bit, out);
@@ -100,7 +101,7 @@ pub extern "C" fn controller_tray(
     out: &mut [u8],
     written: &mut usize,
 ) -> u8
-    ensures { TrayImagePromise (before image) (before tray) (before out) result (after image) (after out) (after written) }
+    ensures { TrayImagePromise image.old tray.now out.old result image.new out.new written.new }
 {
     if is_shaped(image) {
         let mut heard = [0u32; MAX_NUMBERS];
@@ -132,7 +133,7 @@ pub extern "C" fn controller_tray(
 // Why bytes are void in a round, 11, 12 or 13; 0 where they are a frame of it. For whoever sorts damaged frames by their cause.
 #[unsafe(no_mangle)]
 pub extern "C" fn controller_frame(frame: &[u8], round: u32) -> u8
-    ensures { result ≡ read_refusal (before frame) round }
+    ensures { result ≡ read_refusal frame.now round }
 {
     read_refusal(frame, round)
 }
@@ -140,7 +141,7 @@ pub extern "C" fn controller_frame(frame: &[u8], round: u32) -> u8
 // The decision of the image's state, 2 for none; 255 for an image that is not sound.
 #[unsafe(no_mangle)]
 pub extern "C" fn controller_decision(image: &[u8]) -> u8
-    ensures { result ≡ cond (sound_image (before image)) (taken_apart (before image)).decision 255 }
+    ensures { result ≡ cond (sound_image image.now) (taken_apart image.now).decision 255 }
 {
     if is_sound_image(image) {
         image[DECISION_AT]
@@ -152,7 +153,7 @@ pub extern "C" fn controller_decision(image: &[u8]) -> u8
 // The number in the four bytes at `at`; 0 for an image that is not sound.
 fn field(image: &[u8], at: usize) -> u32
     requires { at ≤ echoes_at }
-    ensures { result ≡ field_of (before image) (number_at (before image) at) }
+    ensures { result ≡ field_of image.now (number_at image.now at) }
 {
     if is_sound_image(image) {
         word(image, at)
@@ -164,7 +165,7 @@ fn field(image: &[u8], at: usize) -> u32
 // The last round sent.
 #[unsafe(no_mangle)]
 pub extern "C" fn controller_round(image: &[u8]) -> u32
-    ensures { result ≡ field_of (before image) (taken_apart (before image)).round }
+    ensures { result ≡ field_of image.now (taken_apart image.now).round }
 {
     field(image, ROUND_AT)
 }
@@ -172,7 +173,7 @@ pub extern "C" fn controller_round(image: &[u8]) -> u32
 // The king, 0 for none.
 #[unsafe(no_mangle)]
 pub extern "C" fn controller_king(image: &[u8]) -> u32
-    ensures { result ≡ field_of (before image) (taken_apart (before image)).king }
+    ensures { result ≡ field_of image.now (taken_apart image.now).king }
 {
     field(image, KING_AT)
 }
@@ -180,7 +181,7 @@ pub extern "C" fn controller_king(image: &[u8]) -> u32
 // How many numbers are heard.
 #[unsafe(no_mangle)]
 pub extern "C" fn controller_heard(image: &[u8]) -> u32
-    ensures { result ≡ field_of (before image) (taken_apart (before image)).heard.len }
+    ensures { result ≡ field_of image.now (taken_apart image.now).heard.len }
 {
     field(image, HEARD_AT)
 }
@@ -188,7 +189,7 @@ pub extern "C" fn controller_heard(image: &[u8]) -> u32
 // How many numbers are candidates.
 #[unsafe(no_mangle)]
 pub extern "C" fn controller_candidates(image: &[u8]) -> u32
-    ensures { result ≡ field_of (before image) (taken_apart (before image)).candidates.len }
+    ensures { result ≡ field_of image.now (taken_apart image.now).candidates.len }
 {
     field(image, CANDIDATES_AT)
 }
@@ -196,7 +197,7 @@ pub extern "C" fn controller_candidates(image: &[u8]) -> u32
 // How many numbers are echoed.
 #[unsafe(no_mangle)]
 pub extern "C" fn controller_echoes(image: &[u8]) -> u32
-    ensures { result ≡ field_of (before image) (taken_apart (before image)).echoes.len }
+    ensures { result ≡ field_of image.now (taken_apart image.now).echoes.len }
 {
     field(image, ECHOES_AT)
 }
@@ -204,7 +205,7 @@ pub extern "C" fn controller_echoes(image: &[u8]) -> u32
 // The number at place `i` of heard, from 0; 0 past the end.
 #[unsafe(no_mangle)]
 pub extern "C" fn controller_heard_number(image: &[u8], i: u32) -> u32
-    ensures { result ≡ field_of (before image) (get_or (listed (taken_apart (before image)).heard) i 0) }
+    ensures { result ≡ field_of image.now (get_or (listed (taken_apart image.now).heard) i 0) }
 {
     let place = i as usize;
     if place < MAX_NUMBERS {
@@ -217,7 +218,7 @@ pub extern "C" fn controller_heard_number(image: &[u8], i: u32) -> u32
 // The round of the tray that first brought the number at place `i` of heard; 0 for the own number, and past the end.
 #[unsafe(no_mangle)]
 pub extern "C" fn controller_first_round(image: &[u8], i: u32) -> u32
-    ensures { result ≡ field_of (before image) (get_or (first_rounds (taken_apart (before image))) i 0) }
+    ensures { result ≡ field_of image.now (get_or (first_rounds (taken_apart image.now)) i 0) }
 {
     let place = i as usize;
     if is_sound_image(image) {

@@ -12,7 +12,7 @@
 use Rattle.std.specs.Prelude.{ℕ, ◌+◌, ◌*◌, ◌≤◌, ◌<◌, ◌⊎◌, ◌≢◌, true, ◌≡◌, length, take}
 use mathlib.Core.List.{List, [], ◌∷◌, ◌++◌, map, Memᴰ}
 use contract.Lifetimes.{Lfts}
-use Rattle.std.specs.Borrow.{Bor}
+use Rattle.std.specs.Borrow.{Bor, MutBor}
 use Rattle.controller.specs.Bytes.{Entry, well_formed, round_of, entries}
 use Rattle.controller.specs.Lists.{In, NoRepeats}
 use Rattle.controller.specs.Received.{senders}
@@ -31,8 +31,12 @@ pub record Place : Type 0 where
   pub pointer : ℕ × ℕ
   pub name : ℕ
 
+-- lent to be read, and to be written
 abbrev pub lent : Place → List ℕ → Bor (List ℕ)
-lent p l = record { ref_ptr = p.pointer; ghost_name = p.name; now = l }
+lent p l = record { ref_ptr = p.pointer; now = l }
+
+abbrev pub lent_out : Place → List ℕ → MutBor (List ℕ)
+lent_out p l = record { ref_ptr = p.pointer; ghost_name = p.name; now = l }
 
 pub record StartCall (number : ℕ) : Type 0 where
   -- the bit given to the start, "the one it brought in"
@@ -44,7 +48,7 @@ pub record StartCall (number : ℕ) : Type 0 where
   pub lifetimes : Lfts 1
   pub out : Place
   -- what the contract of `start` ensures
-  pub promise : start-contract.Post lifetimes (number, (bit, (lent out before, tt))) answer (number, (bit, (lent out after, tt)))
+  pub promise : start-contract.Post lifetimes (number, (bit, (lent_out out before, tt))) answer (number, (bit, (lent_out out after, tt)))
 
 pub record TrayCall : Type 0 where
   pub state : State
@@ -56,7 +60,7 @@ pub record TrayCall : Type 0 where
   pub source : Place
   pub out : Place
   -- what the contract of `tray` ensures
-  pub promise : tray-contract.Post lifetimes (state, (lent source tray, (lent out before, tt))) answer (state, (lent source tray, (lent out after, tt)))
+  pub promise : tray-contract.Post lifetimes (state, (lent source tray, (lent_out out before, tt))) answer (state, (lent source tray, (lent_out out after, tt)))
 
 -- "trays, worked or refused"
 abbrev pub Accepted : TrayCall → Type 0

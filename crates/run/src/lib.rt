@@ -1,1 +1,2 @@
-// The whole run and the agreement theorem. There is no code here: the definitions and the proof stand in specs/.
+// The whole run and the agreement theorem. There is no code here: the definitions stand in specs/, the proof in proofs/.
+#![tactic(auto)]

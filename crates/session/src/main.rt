@@ -1,4 +1,6 @@
 // Document 01's session printer: a number and a bit from standard input, then trays, and a line of output for each call made with them.
+#![tactic(auto)]
+
 ghost use Rattle.std.specs.Prelude.{◌≤◌, ◌<◌, length};
 
 use controller::calls::{start, tray};
@@ -84,7 +86,7 @@ fn print_call(answer: Answer, frame: &[u8; 264]) {
 }
 
 // Whether the session goes on, and the state that the next tray is handed over with.
-#[derive(Drop)]
+#[derive(Clone, Copy)]
 struct Next {
     open: bool,
     state: State,

@@ -6,7 +6,7 @@ use wire::frame::{Frame, kind_of, said_by};
 use wire::limits::{MAX_FRAME, ROSTER, TURN};
 use wire::write::write_frame;
 
-#[derive(Drop)]
+#[derive(Clone, Copy)]
 pub(crate) enum Fault {
     // Init to 5 and 7, then void frames to these and a roster of 3 alone to 9, then nothing: the last trial of document 01, as document 02, A7, has it.
     Trial,

@@ -1,5 +1,7 @@
 // The trial of document 01 that has no star, and the same network under other faults: 3 is faulty, 5, 7 and 9 are correct. They run the real
 // calls, and their frames are carried from call to call. What is printed comes from the states that the calls return.
+#![tactic(auto)]
+
 ghost use Rattle.std.specs.Prelude.{◌≤◌};
 
 mod faulty;
@@ -14,14 +16,14 @@ use report::{print, print_change, print_input, print_outcome, print_refusal};
 use wire::limits::{MAX_FRAME, NO_BIT};
 
 // A correct controller between two rounds: the state that its last call returned, and the frame that this call wrote, if any.
-#[derive(Drop)]
+#[derive(Clone, Copy)]
 struct Node {
     state: State,
     sent: Packet,
 }
 
 // The correct controllers 5, 7 and 9.
-#[derive(Drop)]
+#[derive(Clone, Copy)]
 struct Network {
     five: Node,
     seven: Node,

@@ -8,7 +8,7 @@ use wire::limits::MAX_FRAME;
 pub(crate) const TRAY_ROOM: usize = 824;
 
 // A frame on its way: the `len` first bytes. Sender 0, which is no controller's number, stands for no frame.
-#[derive(Drop)]
+#[derive(Clone, Copy)]
 pub(crate) struct Packet {
     pub sender: u32,
     pub len: usize,
@@ -25,7 +25,7 @@ pub(crate) fn nothing() -> Packet {
 }
 
 // A tray under way: the directory has its place and `placed` of its entries, and the frames put so far end at `len`.
-#[derive(Drop)]
+#[derive(Clone, Copy)]
 pub(crate) struct Tray {
     pub len: usize,
     pub placed: usize,

@@ -1,5 +1,4 @@
 -- What the crate's contracts cite. Each file opens with the section of document 01 or 02 that it renders; the laws stand apart, below `Laws`.
-pub mod Lent
 pub mod Limits
 pub mod Words
 pub mod Numbers

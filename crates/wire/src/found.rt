@@ -1,12 +1,11 @@
 // What a tray has under a number: one frame, none, or several that differ (specs/Found.antt). Who goes along a directory, from its end to its front, keeps
 // a note for each number; specs/Notes.antt says what that tells.
 ghost use Rattle.std.specs.Prelude.{◌≡◌, ◌+◌, ◌≤◌, length, take, drop};
-ghost use Rattle.wire.specs.Lent.{before};
 ghost use Rattle.wire.specs.Found.{same_bytes};
 ghost use Rattle.wire.specs.Notes.{found_by, same_frames, note_with};
 
 // Where a number's frame lies, offset and length (of equal copies, the first); or that it has none, or several that differ.
-#[derive(Drop)]
+#[derive(Clone, Copy)]
 pub enum Found {
     At(usize, usize),
     Nothing,
@@ -34,7 +33,7 @@ pub fn found_by(note: u32) -> Found
 // Whether the `n` bytes from `from` on are the same. The loop has no way out, so that many bytes are compared at once where `n` is known beforehand.
 fn same_span(a: &[u8], b: &[u8], from: usize, n: usize) -> bool
     requires { (from + n ≤ length a.now) × (from + n ≤ length b.now) }
-    ensures { result ≡ same_bytes (take n (drop from (before a))) (take n (drop from (before b))) }
+    ensures { result ≡ same_bytes (take n (drop from a.now)) (take n (drop from b.now)) }
 {
     let mut same = true;
     let mut i = 0;
@@ -47,7 +46,7 @@ fn same_span(a: &[u8], b: &[u8], from: usize, n: usize) -> bool
 
 // Whether two parts have the same bytes. It goes from the end to the front: lists that differ mostly differ in their last numbers.
 pub fn same_bytes(a: &[u8], b: &[u8]) -> bool
-    ensures { result ≡ same_bytes (before a) (before b) }
+    ensures { result ≡ same_bytes a.now b.now }
 {
     let mut end = a.len();
     if end != b.len() {
@@ -70,7 +69,7 @@ pub fn same_bytes(a: &[u8], b: &[u8]) -> bool
 
 // Whether two notes are of one frame each, which lie in the tray and have the same bytes.
 pub fn same_frames(tray: &[u8], a: u32, b: u32) -> bool
-    ensures { result ≡ same_frames (before tray) a b }
+    ensures { result ≡ same_frames tray.now a b }
 {
     let first = found_by(a);
     let Found::At(offset, len) = first else {
@@ -91,7 +90,7 @@ pub fn same_frames(tray: &[u8], a: u32, b: u32) -> bool
 
 // The note on a number, once a frame at `place` is met under it: equal copies count once, and the one in front is kept.
 pub fn note_with(tray: &[u8], note: u32, place: u32) -> u32
-    ensures { result ≡ note_with (before tray) note place }
+    ensures { result ≡ note_with tray.now note place }
 {
     if note == NO_FRAME {
         return place;

@@ -1,21 +1,20 @@
 // Frames: what a controller sends in a round, and how its fields go with one another. The layout is that of document 01, "Frames";
 // specs/Frame.antt says what each call answers. src/read.rt reads a frame, src/write.rt writes one.
 ghost use Rattle.std.specs.Prelude.{◌≡◌};
-ghost use Rattle.wire.specs.Lent.{before};
 ghost use Rattle.wire.specs.Numbers.{rising};
 ghost use Rattle.wire.specs.Frame.{kind_of, chosen_by, said_by, bit_fits, max_count, round_fits, bit_chosen, kind_said, bit_said};
 
 use crate::limits::{INIT, LAST_ROUND, MAX_NUMBERS, NO_BIT, PROPOSE, ROSTER, TURN, VALUE};
 
 // A proposal or an opinion: a bit, or none. Document 01's 2 (none) is `None` alone.
-#[derive(Drop)]
+#[derive(Clone, Copy)]
 pub enum Choice {
     Bit(u8),
     None,
 }
 
 // What a frame says. The list of a roster or an opinion stands beside it.
-#[derive(Drop)]
+#[derive(Clone, Copy)]
 pub enum Said {
     Init,
     Roster,
@@ -24,21 +23,21 @@ pub enum Said {
     Opinion(Choice),
 }
 
-#[derive(Drop)]
+#[derive(Clone, Copy)]
 pub struct Frame {
     pub round: u32,
     pub said: Said,
 }
 
 // A list of controller numbers: `len` used places, the others 0.
-#[derive(Drop)]
+#[derive(Clone, Copy)]
 pub struct Numbers {
     pub len: usize,
     pub at: [u32; MAX_NUMBERS],
 }
 
 // What bytes read as in the round expected: a frame, or void, document 01's word, with the cause by which request A2 of document 02 sorts it.
-#[derive(Drop)]
+#[derive(Clone, Copy)]
 pub enum Read {
     Valid(Frame),
     // 11: fewer bytes than a header has, or not as many as the count says.
@@ -50,7 +49,7 @@ pub enum Read {
 }
 
 // The refusal, 0 for none, and the number of bytes written.
-#[derive(Drop)]
+#[derive(Clone, Copy)]
 pub struct Written {
     pub refusal: u8,
     pub length: usize,
@@ -164,7 +163,7 @@ pub fn bit_said(said: Said) -> u8
 
 // Whether numbers rise strictly from above 0. A loop with no way out is compiled to tests of four numbers at once.
 pub fn rise(numbers: &[u32]) -> bool
-    ensures { result ≡ rising 0 (before numbers) }
+    ensures { result ≡ rising 0 numbers.now }
 {
     let mut ok = true;
     let mut last = 0;

@@ -1,6 +1,5 @@
 // The frame reader: document 01, "Frames", and request A2 of document 02. A frame's numbers stay in its bytes.
 ghost use Rattle.std.specs.Prelude.{◌≡◌, cond, ◌+◌, ◌*◌, ◌≤◌, leb, length};
-ghost use Rattle.wire.specs.Lent.{before};
 ghost use Rattle.wire.specs.Limits.{frame_header, number_width};
 ghost use Rattle.wire.specs.Numbers.{rising};
 ghost use Rattle.wire.specs.Words.{word_at, words_at};
@@ -15,7 +14,7 @@ use crate::word::{half, word};
 
 // How many numbers the bytes of a frame list; 0 for bytes without a header.
 pub fn number_count(bytes: &[u8]) -> usize
-    ensures { result ≡ count_of (before bytes) }
+    ensures { result ≡ count_of bytes.now }
 {
     if FRAME_HEADER <= bytes.len() {
         half(bytes, COUNT_AT)
@@ -26,7 +25,7 @@ pub fn number_count(bytes: &[u8]) -> usize
 
 // The number in the four bytes from a place on: one of a frame's list, in the frame or in the tray that it lies in. 0 where the bytes end before it.
 pub fn read_number(bytes: &[u8], at: usize) -> u32
-    ensures { result ≡ cond (leb (at + number_width) (length (before bytes))) (word_at (before bytes) at) 0 }
+    ensures { result ≡ cond (leb (at + number_width) (length bytes.now)) (word_at bytes.now at) 0 }
 {
     if bytes.len() < NUMBER_WIDTH {
         return 0;
@@ -47,7 +46,7 @@ pub fn head_of(round: u32, bit: u8) -> u64
 
 // The eight bytes from a place on as one number; 0 where the bytes end before them.
 pub fn read_head(bytes: &[u8], at: usize) -> u64
-    ensures { result ≡ head_from (before bytes) at }
+    ensures { result ≡ head_from bytes.now at }
 {
     if bytes.len() < FRAME_HEADER {
         return 0;
@@ -62,7 +61,7 @@ pub fn read_head(bytes: &[u8], at: usize) -> u64
 // Whether a frame's numbers rise strictly from above 0. Two numbers in each turn take half the time of one.
 fn numbers_rise(bytes: &[u8], count: usize) -> bool
     requires { length bytes.now ≡ frame_header + number_width * count }
-    ensures { result ≡ rising 0 (words_at (before bytes) frame_header count) }
+    ensures { result ≡ rising 0 (words_at bytes.now frame_header count) }
 {
     let mut last = 0;
     let mut i = 0;
@@ -85,14 +84,14 @@ fn numbers_rise(bytes: &[u8], count: usize) -> bool
 }
 
 fn length_fits(bytes: &[u8]) -> bool
-    ensures { result ≡ length_fits (before bytes) }
+    ensures { result ≡ length_fits bytes.now }
 {
     bytes.len() == FRAME_HEADER + NUMBER_WIDTH * number_count(bytes)
 }
 
 fn head_fits(bytes: &[u8], round: u32) -> bool
     requires { frame_header ≤ length bytes.now }
-    ensures { result ≡ head_fits (before bytes) round }
+    ensures { result ≡ head_fits bytes.now round }
 {
     let kind = bytes[KIND_AT];
     round_fits(round) && word(bytes, 0) == round && kind == kind_of(round)
@@ -101,7 +100,7 @@ fn head_fits(bytes: &[u8], round: u32) -> bool
 // Whether the numbers of bytes of a fitting length are such as a frame of a kind may list. Most frames list none.
 fn list_fits(bytes: &[u8], kind: u8) -> bool
     requires { length bytes.now ≡ frame_header + number_width * count_of bytes.now }
-    ensures { result ≡ list_fits (before bytes) kind }
+    ensures { result ≡ list_fits bytes.now kind }
 {
     let count = number_count(bytes);
     if count == 0 {
@@ -114,14 +113,14 @@ fn list_fits(bytes: &[u8], kind: u8) -> bool
 // Whether the bit and the numbers of bytes of a fitting length are such as a frame of a kind may have.
 fn body_fits(bytes: &[u8], kind: u8) -> bool
     requires { length bytes.now ≡ frame_header + number_width * count_of bytes.now }
-    ensures { result ≡ body_fits (before bytes) kind }
+    ensures { result ≡ body_fits bytes.now kind }
 {
     bit_fits(kind, bytes[BIT_AT]) && list_fits(bytes, kind)
 }
 
 // Why bytes are void in a round: 11, 12 or 13, tested in this order; 0 where they are a frame. For any bytes and any round.
 pub fn read_refusal(bytes: &[u8], round: u32) -> u8
-    ensures { result ≡ read_refusal (before bytes) round }
+    ensures { result ≡ read_refusal bytes.now round }
 {
     if !length_fits(bytes) {
         WRONG_LENGTH
@@ -136,7 +135,7 @@ pub fn read_refusal(bytes: &[u8], round: u32) -> u8
 
 // What bytes say in a round, or why they are void: for any bytes and any round.
 pub fn read_frame(bytes: &[u8], round: u32) -> Read
-    ensures { FrameReads (before bytes) round result }
+    ensures { FrameReads bytes.now round result }
 {
     let refusal = read_refusal(bytes, round);
     if refusal == 0 {

@@ -1,7 +1,6 @@
 // Trays: the frames of one round, as a host hands them over. The layout is that of document 01, "Trays"; specs/Tray.antt says what each call
 // answers, outside the directory too.
 ghost use Rattle.std.specs.Prelude.{◌≡◌, ◌+◌, ◌≤◌, leb, length};
-ghost use Rattle.wire.specs.Lent.{before};
 ghost use Rattle.wire.specs.Limits.{entry_width, offset_at};
 ghost use Rattle.wire.specs.Tray.{well_formed, round_of, entry_count, entry_at, directory, word_of, chained, part};
 
@@ -12,7 +11,7 @@ use crate::word::{half, word};
 
 // The round in which the tray's frames were sent; 0 for a tray without a header.
 pub fn tray_round(tray: &[u8]) -> u32
-    ensures { result ≡ round_of (before tray) }
+    ensures { result ≡ round_of tray.now }
 {
     if TRAY_HEADER <= tray.len() {
         word(tray, 0)
@@ -23,7 +22,7 @@ pub fn tray_round(tray: &[u8]) -> u32
 
 // How many entries the tray says it has; 0 for a tray without a header.
 pub fn entry_count(tray: &[u8]) -> usize
-    ensures { result ≡ entry_count (before tray) }
+    ensures { result ≡ entry_count tray.now }
 {
     if TRAY_HEADER <= tray.len() {
         half(tray, ENTRIES_AT)
@@ -34,14 +33,14 @@ pub fn entry_count(tray: &[u8]) -> usize
 
 // Whether the `len` bytes from `offset` on lie in the tray. No sum is made that could wrap.
 fn lies_in(tray: &[u8], offset: usize, len: usize) -> bool
-    ensures { result ≡ leb (offset + len) (length (before tray)) }
+    ensures { result ≡ leb (offset + len) (length tray.now) }
 {
     offset <= tray.len() && len <= tray.len() - offset
 }
 
 // The `len` bytes from `offset` on; no bytes where they run past the tray's end.
 pub fn part_of<'a>(tray: &'a [u8], offset: usize, len: usize) -> &'a [u8]
-    ensures { result.now ≡ part (before tray) offset len }
+    ensures { result.now ≡ part tray.now offset len }
 {
     if lies_in(tray, offset, len) {
         &tray[offset..offset + len]
@@ -52,7 +51,7 @@ pub fn part_of<'a>(tray: &'a [u8], offset: usize, len: usize) -> &'a [u8]
 
 // The directory: the entries' bytes. No bytes where they run past the tray's end.
 pub fn directory<'a>(tray: &'a [u8]) -> &'a [u8]
-    ensures { result.now ≡ directory (before tray) }
+    ensures { result.now ≡ directory tray.now }
 {
     part_of(tray, TRAY_HEADER, ENTRY_WIDTH * entry_count(tray))
 }
@@ -60,7 +59,7 @@ pub fn directory<'a>(tray: &'a [u8]) -> &'a [u8]
 // The word at `at` of entry `i` of a directory; 0 where there is no such entry.
 fn entry_word(directory: &[u8], i: usize, at: usize) -> u32
     requires { at + 4 ≤ entry_width }
-    ensures { result ≡ word_of (before directory) i at }
+    ensures { result ≡ word_of directory.now i at }
 {
     if i < directory.len() / ENTRY_WIDTH {
         word(directory, ENTRY_WIDTH * i + at)
@@ -71,14 +70,14 @@ fn entry_word(directory: &[u8], i: usize, at: usize) -> u32
 
 // The sender of entry `i` of a directory; 0 where there is no such entry.
 pub fn entry_sender(directory: &[u8], i: usize) -> u32
-    ensures { result ≡ word_of (before directory) i 0 }
+    ensures { result ≡ word_of directory.now i 0 }
 {
     entry_word(directory, i, 0)
 }
 
 // Where the frame of entry `i` of a directory lies, offset and length in one word; 0 where there is no such entry.
 pub fn entry_place(directory: &[u8], i: usize) -> u32
-    ensures { result ≡ word_of (before directory) i offset_at }
+    ensures { result ≡ word_of directory.now i offset_at }
 {
     entry_word(directory, i, OFFSET_AT)
 }
@@ -86,7 +85,7 @@ pub fn entry_place(directory: &[u8], i: usize) -> u32
 // Whether the frames follow each other without a gap from the directory's end to the tray's end.
 fn frames_follow(tray: &[u8], count: usize) -> bool
     requires { entry_at count ≤ length tray.now }
-    ensures { result ≡ chained (before tray) count 0 (entry_at count) }
+    ensures { result ≡ chained tray.now count 0 (entry_at count) }
 {
     let mut end = TRAY_HEADER + ENTRY_WIDTH * count;
     let mut i = 0;
@@ -103,7 +102,7 @@ fn frames_follow(tray: &[u8], count: usize) -> bool
 
 // Document 01's "well packed", for any bytes.
 pub fn well_formed(tray: &[u8]) -> bool
-    ensures { result ≡ well_formed (before tray) }
+    ensures { result ≡ well_formed tray.now }
 {
     let count = entry_count(tray);
     (TRAY_HEADER <= tray.len()) & (tray.len() <= MAX_TRAY) & (count <= MAX_ENTRIES)

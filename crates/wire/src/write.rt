@@ -1,10 +1,9 @@
 // The frame writer: document 01, "Frames".
 ghost use Rattle.std.specs.Prelude.{◌≡◌, ◌+◌, ◌*◌, ◌≤◌, length};
 ghost use Rattle.std.proofs.lemmas.List.Edits.{sets};
-ghost use Rattle.wire.specs.Lent.{before, after};
 ghost use Rattle.wire.specs.Limits.{frame_header, number_width, max_numbers};
 ghost use Rattle.wire.specs.Words.{words_bytes};
-ghost use Rattle.wire.specs.Frame.{kind_of, chosen_fits, said_fits, writable, header_bytes, FrameWrites};
+ghost use Rattle.wire.specs.Frame.{kind_of, kind_said, bit_said, chosen_fits, said_fits, writable, header_bytes, FrameWrites};
 ghost use Rattle.wire.specs.Laid.{FrameLays};
 
 use crate::frame::{
@@ -37,7 +36,7 @@ fn said_fits(said: Said) -> bool
 }
 
 fn writable(frame: Frame, numbers: &[u32]) -> bool
-    ensures { result ≡ writable (record { round = frame.round; said = frame.said; numbers = before numbers }) }
+    ensures { result ≡ writable (record { round = frame.round; said = frame.said; numbers = numbers.now }) }
 {
     let round = frame.round;
     let said = frame.said;
@@ -49,19 +48,30 @@ fn writable(frame: Frame, numbers: &[u32]) -> bool
         & rise(numbers)
 }
 
-fn put_header(out: &mut [u8], round: u32, bit: u8, count: usize)
+// The header by its parts: round, kind, bit and count.
+fn lay_header(out: &mut [u8], round: u32, kind: u8, bit: u8, count: usize)
     requires { (frame_header ≤ length out.old) × (count ≤ max_numbers) }
-    ensures { after out ≡ sets (before out) 0 (header_bytes round (kind_of round) bit count) }
+    ensures { out.new ≡ sets out.old 0 (header_bytes round kind bit count) }
 {
     put_word(out, 0, round);
-    out[KIND_AT] = kind_of(round);
+    out[KIND_AT] = kind;
     out[BIT_AT] = bit;
     put_half(out, COUNT_AT, count);
 }
 
+fn put_header(out: &mut [u8], frame: Frame, count: usize)
+    requires { (frame_header ≤ length out.old) × (count ≤ max_numbers) }
+    ensures { out.new
+        ≡ sets out.old 0 (header_bytes frame.round (kind_said frame.said) (bit_said frame.said) count) }
+{
+    let round = frame.round;
+    let said = frame.said;
+    lay_header(out, round, kind_said(said), bit_said(said), count);
+}
+
 fn put_numbers(out: &mut [u8], numbers: &[u32])
     requires { frame_header + number_width * length numbers.now ≤ length out.old }
-    ensures { after out ≡ sets (before out) frame_header (words_bytes (before numbers)) }
+    ensures { out.new ≡ sets out.old frame_header (words_bytes numbers.now) }
 {
     let mut i = 0;
     while i < numbers.len() {
@@ -73,7 +83,7 @@ fn put_numbers(out: &mut [u8], numbers: &[u32])
 // Writes the bytes of a frame of a round at the start of `out`, and returns how many they are. What the frame says is not tested: that is for who knows
 // that it is one. Nothing is written, and 0 returned, where `out` is too short for the longest frame or there are more than 64 numbers.
 pub fn lay_frame(round: u32, bit: u8, numbers: &[u32], out: &mut [u8]) -> usize
-    ensures { FrameLays round bit (before numbers) (before out) result (after out) }
+    ensures { FrameLays round bit numbers.now out.old result out.new }
 {
     if out.len() < MAX_FRAME {
         return 0;
@@ -81,15 +91,15 @@ pub fn lay_frame(round: u32, bit: u8, numbers: &[u32], out: &mut [u8]) -> usize
     if MAX_NUMBERS < numbers.len() {
         return 0;
     }
-    put_header(out, round, bit, numbers.len());
+    lay_header(out, round, kind_of(round), bit, numbers.len());
     put_numbers(out, numbers);
     FRAME_HEADER + NUMBER_WIDTH * numbers.len()
 }
 
 // Writes a frame at the start of `out`, or refuses (10, then 3) and leaves `out` as it is.
 pub fn write_frame(frame: Frame, numbers: &[u32], out: &mut [u8]) -> Written
-    ensures { FrameWrites (record { round = frame.round; said = frame.said; numbers = before numbers })
-        (before out) result (after out) }
+    ensures { FrameWrites (record { round = frame.round; said = frame.said; numbers = numbers.now })
+        out.old result out.new }
 {
     if writable(frame, numbers) {
         if out.len() < MAX_FRAME {
@@ -98,9 +108,12 @@ pub fn write_frame(frame: Frame, numbers: &[u32], out: &mut [u8]) -> Written
                 length: 0,
             };
         }
-        let said = frame.said;
-        let length = lay_frame(frame.round, bit_said(said), numbers, out);
-        Written { refusal: 0, length }
+        put_header(out, frame, numbers.len());
+        put_numbers(out, numbers);
+        Written {
+            refusal: 0,
+            length: FRAME_HEADER + NUMBER_WIDTH * numbers.len(),
+        }
     } else {
         Written {
             refusal: 10,

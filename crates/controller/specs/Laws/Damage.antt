@@ -1,7 +1,7 @@
 -- Laws of damaged frames: demand 1's last sentence, a damaged frame never gets a well packed tray refused.
 use Rattle.std.specs.Prelude.{ℕ, ◌<◌, ◌≤◌, Bool, true, false, cond, List, [], ◌∷◌, ◌++◌, ◌⊎◌, ◌≢◌, ◌≡◌, eqb, length}
 use Rattle.std.proofs.Common.{true≢false, inl, inr, sym, ap, ◌∙◌, subst, le_refl, le_trans, arith}
-use Rattle.std.proofs.Math.Bool.{and_false}
+use Rattle.std.proofs.Math.Bool.{and-false}
 use Rattle.std.proofs.Math.Option.{Option, some, none}
 use Rattle.std.proofs.Math.Path.{refl}
 use Rattle.std.proofs.Math.Seq.{map-set_same}
@@ -170,9 +170,9 @@ received_damaged : (v : View) (new : List ℕ) (es es' : List Entry) (x : ℕ) �
 unfolding receive
 received_damaged v new es es' x void (inl e) = inl (rw e)
 received_damaged v new es es' x void (inr (inl e)) =
-    rw (e, and_false (mem x v.rotor.heard), void) (fewer (eqb x v.own) (some (frame_of v)) (had_of v es x))
+    rw (e, and-false (mem x v.rotor.heard), void) (fewer (eqb x v.own) (some (frame_of v)) (had_of v es x))
 received_damaged v new es es' x void (inr (inr e)) =
-    rw (e, and_false (mem x v.rotor.heard)) (fewer (eqb x v.own) (some (frame_of v)) (had_of v es x))
+    rw (e, and-false (mem x v.rotor.heard)) (fewer (eqb x v.own) (some (frame_of v)) (had_of v es x))
 
 -- a frame of a well packed tray overwritten by as many bytes that are void in the state's round
 module _ (s : State) (b : List ℕ) (i : ℕ) (new : List ℕ) (packed : well_formed b ≡ true) (counted : i < entry_count b)

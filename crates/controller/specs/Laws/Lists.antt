@@ -35,16 +35,16 @@ mem_out l t i = true≢false (sym (in_mem i) ∙ t)
 pub in_or_not : (x : ℕ) (l : List ℕ) → In x l ⊎ (¬ In x l)
 in_or_not x l = elim (true_or_false (mem x l)) [ inl t ↦ inl (mem_in l t) | inr t ↦ inr (λ i. true≢false (sym (in_mem i) ∙ t)) ]
 
-pub get_d_in : (l : List ℕ) (i : ℕ) → i < length l → In (get_or l i 0) l
-get_d_in [] i h = absurd (omega arith)
-get_d_in (x ∷ l) zero h = Memᴰ.head refl
-get_d_in (x ∷ l) (suc i) h = Memᴰ.tail (get_d_in l i (omega arith))
+pub get_or_in : (l : List ℕ) (i : ℕ) → i < length l → In (get_or l i 0) l
+get_or_in [] i h = absurd (omega arith)
+get_or_in (x ∷ l) zero h = Memᴰ.head refl
+get_or_in (x ∷ l) (suc i) h = Memᴰ.tail (get_or_in l i (omega arith))
 
 -- what is said of places behind the end does not matter before it
-pub get_d_inside : (l : List ℕ) (i d e : ℕ) → i < length l → get_or l i d ≡ get_or l i e
-get_d_inside [] i d e h = absurd (omega arith)
-get_d_inside (x ∷ l) zero d e h = refl
-get_d_inside (x ∷ l) (suc i) d e h = get_d_inside l i d e (omega arith)
+pub get_or_inside : (l : List ℕ) (i d e : ℕ) → i < length l → get_or l i d ≡ get_or l i e
+get_or_inside [] i d e h = absurd (omega arith)
+get_or_inside (x ∷ l) zero d e h = refl
+get_or_inside (x ∷ l) (suc i) d e h = get_or_inside l i d e (omega arith)
 
 pub list_some : (l : List ℕ) → 0 < length l → (x : ℕ) × In x l
 list_some [] h = absurd (omega arith)
@@ -148,6 +148,7 @@ rising_same (x ∷ l) (y ∷ m) up vp i j =
 
 -- the place of k in a rising list is the number of those below k
 pub rising_place : (k : ℕ) (l : List ℕ) → Rising l → In k l → get_or l (count_if (λ y. ltb y k) l) 0 ≡ k
+rising_place k [] up i = elim i [ ]
 rising_place k (x ∷ l) up (Memᴰ.head e) = rw (le-ltb x k (omega arith), count_none (λ y. ltb y k) l (λ y i. le-ltb y k (omega (arith, up.0 y i)))) (sym e)
 rising_place k (x ∷ l) up (Memᴰ.tail i) = rw (lt-ltb x k (up.0 k i)) (rising_place k l up.1 i)
 
@@ -156,7 +157,7 @@ pub rising_at : (l : List ℕ) (i : ℕ) → Rising l → i < length l → count
 rising_at [] i up h = absurd (omega arith)
 rising_at (x ∷ l) zero up h = rw (le-ltb x x (omega arith)) (count_none (λ y. ltb y x) l (λ y j. le-ltb y x (omega (arith, up.0 y j))))
 rising_at (x ∷ l) (suc i) up h =
-    rw (lt-ltb x (get_or l i 0) (up.0 (get_or l i 0) (get_d_in l i (omega arith)))) (ap suc (rising_at l i up.1 (omega arith)))
+    rw (lt-ltb x (get_or l i 0) (up.0 (get_or l i 0) (get_or_in l i (omega arith)))) (ap suc (rising_at l i up.1 (omega arith)))
 
 -- ---- searches
 

@@ -1,6 +1,6 @@
 -- Laws of what is received: who is heard, and that a frame sent with a sound state reads back as what it says.
 use Rattle.std.specs.Prelude.{ℕ, zero, suc, ◌+◌, ◌-◌, ◌≤◌, ◌<◌, Bool, true, false, cond, ◌&&◌, List, [], ◌∷◌, ◌⊎◌, ◌↔◌, ◌≢◌, ◌≡◌, refl, leb, eqb, ltb, length}
-use Rattle.std.proofs.Math.Bool.{and_false}
+use Rattle.std.proofs.Math.Bool.{and-false}
 use mathlib.Core.List.Memᴰ
 use Rattle.std.proofs.Common.{inl, inr, ◌∙◌, ap, leb-false, le-leb, eq-eqb, ne_eqb, arith}
 use Rattle.std.proofs.Math.Option.{Option, some, none}
@@ -65,7 +65,7 @@ received_own v es = rw (eq-eqb v.own v.own refl)
 pub received_other : (v : View) (es : List Entry) (x : ℕ) → x ≢ v.own → is_nothing (under x es) ≡ false
     → (receive v es).from x ≡ read_in v.round (under x es)
 unfolding receive
-received_other v es x h e = rw (ne_eqb x v.own h, e, and_false (mem x v.rotor.heard))
+received_other v es x h e = rw (ne_eqb x v.own h, e, and-false (mem x v.rotor.heard))
 
 -- and of one that is silent
 pub received_silent : (v : View) (es : List Entry) (x : ℕ) → x ≢ v.own → In x v.rotor.heard → (¬ In x (senders es))

@@ -1,6 +1,6 @@
 -- Laws of refusals: what an accepted start or tray passed.
 use Rattle.std.specs.Prelude.{ℕ, zero, suc, ◌<◌, ◌≤◌, Bool, true, false, not, cond, ◌&&◌, List, [], ◌∷◌, ◌++◌, ◌≢◌, ◌↔◌, ◌≡◌, refl, leb, ltb, eqb, length, get_or}
-use Rattle.std.proofs.Math.Bool.{and_false, and-eq-true_iff}
+use Rattle.std.proofs.Math.Bool.{and-false, and-eq-true_iff}
 use Rattle.std.proofs.Common.{sym, ◌∙◌, arith, ltb-true, leb-true, eqb-true, lt-ltb, le-leb, eq-eqb}
 use Rattle.std.proofs.lemmas.Bool.{eqb-false, not-true}
 use Rattle.wire.specs.Limits.{max_numbers, max_frame, last_round}
@@ -124,7 +124,7 @@ tray_fits s b n f =
 -- a sound state that has decided refuses each tray under 2
 pub decided_refused : (s : State) (b : List ℕ) (n : ℕ) → sound s ≡ true → undecided (view s) ≡ false → tray_refusal s b n ≡ 2
 unfolding tray_refusal
-decided_refused s b n h u = rw (h, u, and_false (ltb s.round last_round))
+decided_refused s b n h u = rw (h, u, and-false (ltb s.round last_round))
 
 -- a state that is not sound refuses each tray alike
 pub unsound_refused : (s : State) (b : List ℕ) (n : ℕ) → sound s ≡ false → tray_refusal s b n ≡ 1

@@ -1,6 +1,6 @@
 -- Laws of one step: which bullet makes which round, each field of the next state, and that a step that is not refused keeps soundness.
 use Rattle.std.specs.Prelude.{ℕ, ◌+◌, ◌*◌, ◌-◌, ◌/◌, ◌%◌, ◌<◌, ◌≤◌, Bool, true, false, cond, ◌&&◌, List, ◌≡◌, refl, leb, ltb}
-use Rattle.std.proofs.Math.Bool.{not, and_false, and-eq-true_iff}
+use Rattle.std.proofs.Math.Bool.{not, and-false, and-eq-true_iff}
 use Rattle.std.proofs.Common.{true≢false, sym, ap, ◌∙◌, arith}
 use mathlib.Core.List.Memᴰ
 use Rattle.std.proofs.Math.Logic.{inl, inr}
@@ -307,7 +307,7 @@ with_heard v es = record { own = v.own; round = v.round; rotor = hearing (receiv
 -- who is heard with the tray has an entry, so that just those heard before can be silent
 silent_already_heard : (v : View) (es : List Entry) (x : ℕ) → silent (with_heard v es) es x ≡ silent v es x
 silent_already_heard v es x = elim (in_or_not x (senders es)) [
-  | inl i ↦ rw (under_entry x es i, and_false (mem x (receive v es).heard), and_false (mem x v.rotor.heard))
+  | inl i ↦ rw (under_entry x es i, and-false (mem x (receive v es).heard), and-false (mem x v.rotor.heard))
   | inr out ↦ elim (in_or_not x v.rotor.heard) [
     | inl i ↦ rw (in_mem ((heard_in_lem v es).1 (inr i)), in_mem i)
     | inr new ↦

@@ -4,12 +4,11 @@
 --     Sends v given r left     r is the length of the frame that is sent with v, and it stands in front of what stood in the buffer
 --     LastTest                 what is promised where only test 8 is left, and those heard stay as they are
 use Rattle.std.specs.Prelude.{ℕ, ◌<◌, ◌≤◌, Bool, true, cond, List, [], ◌∷◌, ◌++◌, ◌≡◌, leb, eqb, length, drop}
-use Rattle.wire.specs.Lent.{before, after}
 use Rattle.wire.specs.Limits.{max_frame, last_round}
 use Rattle.wire.specs.Refusal.{first_failed}
 use Rattle.wire.specs.Tray.{well_formed, round_of, entries}
 use Rattle.controller.specs.State.{View, view, undecided, sound, sound_rules}
-use Rattle.controller.specs.Fields.{Lent, state_before, answer_of, state_of}
+use Rattle.controller.specs.Fields.{answer_of, state_of}
 use Rattle.controller.specs.Rules.{next}
 use Rattle.controller.specs.Refusals.{works_on, lists_fit}
 use Rattle.controller.specs.Calls.{sent_bytes, Promise}
@@ -50,8 +49,8 @@ SendsFields f e given r left = (h c : List ℕ) → sound_rules (state_of f h c 
 abbrev pub HeardTray : State → List ℕ → List ℕ → ℕ → Type 0
 HeardTray s b f n = Ready s b f × (s.round < last_round) × (max_frame ≤ n)
 
-abbrev pub LastTest : Fields → Lent → Lent → Lent → Lent → Lent → Worked → Type 0
-LastTest f h c e tray out r =
-    let s = state_before f h c e in
-    let es = entries (before tray) in
-    Promise (cond (lists_fit (view s) es) 0 8) (next (view s) es) [] s (before out) (answer_of r (before h) (after c) (after e) []) (after out)
+abbrev pub LastTest : Fields → List ℕ → List ℕ → List ℕ → List ℕ → List ℕ → Worked → List ℕ → List ℕ → List ℕ → Type 0
+LastTest f h c e tray given r c' e' left =
+    let s = state_of f h c e in
+    let es = entries tray in
+    Promise (cond (lists_fit (view s) es) 0 8) (next (view s) es) [] s given (answer_of r h c' e' []) left

@@ -10,8 +10,6 @@
 --     Ordered t m                each inner node of the tree t, which has m leaves, is the lesser of the two below it
 --     Passes w b s n c m x r ..  what passing x makes: r has how many sent a list with x, and the first key then
 use Rattle.std.specs.Prelude.{ℕ, ◌+◌, ◌-◌, ◌*◌, ◌/◌, ◌%◌, ◌<◌, ◌≤◌, cond, List, ◌≡◌, ltb, eqb, length, get_or, set}
-use Rattle.wire.specs.Lent.{before, after}
-use Rattle.controller.specs.Fields.{Given, Lent}
 use Rattle.controller.specs.Work.Lists.{below}
 use Rattle.controller.specs.Work.Opened.{end_mark, max_lists, open_list, weighed, Lies, Opens}
 use Rattle.controller.specs.declared.heads.Passed.{Passed}
@@ -62,35 +60,23 @@ pub record Passes (own b starts counts weights : List ℕ) (m x : ℕ) (r : Pass
 
 -- ---- what the functions ask for and do, of lent lists
 
-abbrev pub Readable : Given → Given → Given → Given → ℕ → Type 0
+abbrev pub Readable : List ℕ → List ℕ → List ℕ → List ℕ → ℕ → Type 0
 Readable own b starts counts j =
-    (length starts.now ≡ max_lists)
-    × (length counts.now ≡ max_lists)
-    × Lies own.now b.now j (get_or starts.now j 0) (get_or counts.now j 0)
+    (length starts ≡ max_lists)
+    × (length counts ≡ max_lists)
+    × Lies own b j (get_or starts j 0) (get_or counts j 0)
 
-abbrev pub list_before : Lent → Lent → Lent → Lent → ℕ → List ℕ
-list_before own b starts counts j = open_list (before own) (before b) (before starts) (before counts) j
+abbrev pub Movable : ℕ → ℕ → List ℕ → List ℕ → List ℕ → Type 0
+Movable m j tree nexts places = (j < m) × (m ≤ max_lists) × Roomy tree nexts places × (get_or places j 0 ≤ max_lists)
 
-abbrev pub Movable : ℕ → ℕ → Given → Given → Given → Type 0
-Movable m j tree nexts places = (j < m) × (m ≤ max_lists) × Roomy tree.now nexts.now places.now × (get_or places.now j 0 ≤ max_lists)
+-- tree, nexts and places as they are left
+abbrev pub LinesUp : List ℕ → List ℕ → List ℕ → List ℕ → ℕ → List ℕ → List ℕ → List ℕ → Type 0
+LinesUp own b starts counts m tree nexts places = Ordered tree m × Standing own b starts counts m 0 tree nexts places
 
-abbrev pub MovesOn : List ℕ → ℕ → ℕ → Lent → Lent → Lent → ℕ → Type 0
-MovesOn l m j tree nexts places key =
-    Moves l m j (before tree) (before nexts) (before places) key (after tree) (after nexts) (after places)
-
-abbrev pub LinesUp : Lent → Lent → Lent → Lent → ℕ → Lent → Lent → Lent → Type 0
-LinesUp own b starts counts m tree nexts places =
-    Ordered (after tree) m
-    × Standing (before own) (before b) (before starts) (before counts) m 0 (after tree) (after nexts) (after places)
-
-pub record Passable (own b starts counts sent : Given) (m first : ℕ) (tree nexts places : Given) : Type 0 where
-  pub opens : Opens own.now b.now starts.now counts.now sent.now m
-  pub room : Roomy tree.now nexts.now places.now
-  pub least : first ≡ get_or tree.now 1 0
+pub record Passable (own b starts counts sent : List ℕ) (m first : ℕ) (tree nexts places : List ℕ) : Type 0 where
+  pub opens : Opens own b starts counts sent m
+  pub room : Roomy tree nexts places
+  pub least : first ≡ get_or tree 1 0
   pub some : first / slots < end_mark
-  pub ordered : Ordered tree.now m
-  pub standing : Standing own.now b.now starts.now counts.now m (first / slots) tree.now nexts.now places.now
-
-abbrev pub PassesOn : Lent → Lent → Lent → Lent → Lent → ℕ → ℕ → Passed → Lent → Lent → Lent → Type 0
-PassesOn own b starts counts sent m x r tree nexts places =
-    Passes (before own) (before b) (before starts) (before counts) (before sent) m x r (after tree) (after nexts) (after places)
+  pub ordered : Ordered tree m
+  pub standing : Standing own b starts counts m (first / slots) tree nexts places

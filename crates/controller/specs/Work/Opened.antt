@@ -18,13 +18,12 @@
 --     Openable f e b t s n c     what opening finds: a state that is ready for the tray b, and room
 --     OpensAll f e b t s n c m   the m open lists count each number as the lists received with the notes do
 use Rattle.std.specs.Prelude.{ℕ, zero, suc, ◌+◌, ◌*◌, ◌<◌, ◌≤◌, cond, List, ◌≡◌, ◌⊎◌, eqb, length, get_or, take, set}
-use Rattle.wire.specs.Lent.{before, after}
 use Rattle.wire.specs.Limits.{max_numbers}
 use Rattle.wire.specs.Notes.{no_frame}
 use Rattle.wire.specs.Words.{words_at}
 use Rattle.controller.specs.Lists.{In, mem, Rising}
 use Rattle.controller.specs.Received.{read_in, list_in}
-use Rattle.controller.specs.Fields.{Lent, state_of}
+use Rattle.controller.specs.Fields.{state_of}
 use Rattle.controller.specs.Work.Received.{noted, Ready, sent_count}
 use Rattle.controller.specs.declared.state.Fields.{Fields}
 
@@ -116,10 +115,10 @@ pub record Appends (b l : List ℕ) (m : ℕ) (s n t k : List ℕ) (r : ℕ) : T
 abbrev pub Places : List ℕ → List ℕ → List ℕ → ℕ → List ℕ → List ℕ → List ℕ → List ℕ → ℕ → Type 0
 Places own b l m s n t k r = Repeats own b l m s n t k r ⊎ Appends b l m s n t k r
 
-abbrev pub PlacesIn : ℕ → Lent → Lent → ℕ → ℕ → Lent → Lent → ℕ → Type 0
-PlacesIn round own b note m starts counts r =
-    let list = list_under round (open_list (before own) (before b) (before starts) (before counts) 0) (before b) note in
-    Places (before own) (before b) list m (before starts) (before counts) (after starts) (after counts) r
+abbrev pub PlacesIn : ℕ → List ℕ → List ℕ → ℕ → ℕ → List ℕ → List ℕ → List ℕ → List ℕ → ℕ → Type 0
+PlacesIn round own b note m s n t k r =
+    let list = list_under round (open_list own b s n 0) b note in
+    Places own b list m s n t k r
 
 pub record Openable (f : Fields) (e b t s n w : List ℕ) : Type 0 where
   pub heard : List ℕ

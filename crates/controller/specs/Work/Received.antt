@@ -18,7 +18,6 @@
 --     CountsFew h n            neither count is above h
 --     sent_count f              how many numbers the own frame lists
 use Rattle.std.specs.Prelude.{ℕ, ◌-◌, ◌<◌, ◌≤◌, Bool, true, cond, not, ◌&&◌, List, ◌≢◌, ◌≡◌, leb, ltb, eqb, length, get_or}
-use Rattle.wire.specs.Lent.{before}
 use Rattle.wire.specs.Limits.{max_numbers}
 use Rattle.wire.specs.Numbers.{stored, listed}
 use Rattle.wire.specs.Found.{Under, meaning, found}
@@ -27,7 +26,7 @@ use Rattle.wire.specs.Tray.{well_formed, entry_count, entries_from, entries}
 use Rattle.wire.specs.Frame.{kind_of, max_count, bit_in}
 use Rattle.wire.specs.Heads.{head_of}
 use Rattle.wire.specs.declared.frame.Numbers.{Numbers}
-use Rattle.controller.specs.Fields.{Lent, state_of}
+use Rattle.controller.specs.Fields.{state_of}
 use Rattle.controller.specs.Lists.{In, mem, insert_all}
 use Rattle.controller.specs.State.{view, undecided, sound_list, sound_rules}
 use Rattle.controller.specs.Received.{Received, senders, read_in, receive, says, count}
@@ -93,10 +92,8 @@ CountsFew h n = (n.zeros ≤ h) × (n.ones ≤ h)
 abbrev pub sent_count : Fields → ℕ
 sent_count f = cond (ltb 0 (max_count (kind_of f.round))) f.echoes 0
 
-abbrev pub WhereReady : Fields → Lent → Lent → Lent → (State → List ℕ → Type 0) → Type 0
-WhereReady f h tray notes P =
-    (c e : List ℕ) → Ready (state_of f (before h) c e) (before tray) (before notes) → P (state_of f (before h) c e) (before tray)
+abbrev pub WhereReady : Fields → List ℕ → List ℕ → List ℕ → (State → List ℕ → Type 0) → Type 0
+WhereReady f h tray notes P = (c e : List ℕ) → Ready (state_of f h c e) tray notes → P (state_of f h c e) tray
 
-abbrev pub AnyReady : Fields → Lent → Lent → (State → List ℕ → Type 0) → Type 0
-AnyReady f tray notes P =
-    (h c e : List ℕ) → Ready (state_of f h c e) (before tray) (before notes) → P (state_of f h c e) (before tray)
+abbrev pub AnyReady : Fields → List ℕ → List ℕ → (State → List ℕ → Type 0) → Type 0
+AnyReady f tray notes P = (h c e : List ℕ) → Ready (state_of f h c e) tray notes → P (state_of f h c e) tray

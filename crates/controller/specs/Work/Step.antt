@@ -7,13 +7,12 @@
 --     MakesCounted k f n r     r are the fields that the step makes of each state with the fields f that is ready to make a frame of the kind after k, where n
 --                              has the counts of the bits received
 use Rattle.std.specs.Prelude.{ℕ, ◌+◌, ◌<◌, true, false, cond, Bool, List, ◌≡◌, leb, get_or}
-use Rattle.wire.specs.Lent.{before, after}
 use Rattle.wire.specs.Limits.{last_round}
 use Rattle.wire.specs.Numbers.{listed}
 use Rattle.wire.specs.Tray.{entries}
 use Rattle.wire.specs.Frame.{kind_of}
 use Rattle.controller.specs.State.{view, stored_state, state_from}
-use Rattle.controller.specs.Fields.{Lent, state_of, state_before}
+use Rattle.controller.specs.Fields.{state_of}
 use Rattle.controller.specs.Bit.{bit_taken}
 use Rattle.controller.specs.Rules.{next}
 use Rattle.controller.specs.Refusals.{lists_fit}
@@ -59,8 +58,8 @@ MakesCounted k f n r =
     → MakesFields (state_of f h c e) b r
 
 -- the step of a state in parts
-abbrev pub MakesParts : Fields → Lent → Lent → Lent → Lent → Made → Type 0
-MakesParts f h c e tray r = Makes (state_before f h c e) (before tray) r.fits (state_of r.fields (before h) (after c) (after e))
+abbrev pub MakesParts : Fields → List ℕ → List ℕ → List ℕ → List ℕ → Made → List ℕ → List ℕ → Type 0
+MakesParts f h c e tray r c' e' = Makes (state_of f h c e) tray r.fits (state_of r.fields h c' e')
 
 -- the same, from the lists that have grown and the bit that was taken
 abbrev pub MakesGrown : Fields → Lists → ℕ → List ℕ → Made → Type 0

@@ -13,10 +13,8 @@
 --     Tallies s b e k r          so it is with the numbers that the state s receives with the tray b
 --     GrowsLists s b r c e       so it is with the echoes and candidates that making round 3 + 3r gives, where c and e are the places after it
 use Rattle.std.specs.Prelude.{ℕ, ◌+◌, ◌<◌, ◌≤◌, true, false, cond, ◌&&◌, List, [], ◌≡◌, ◌⊎◌, ◌↔◌, leb, length, take}
-use Rattle.wire.specs.Lent.{before, after}
 use Rattle.wire.specs.Limits.{max_numbers}
 use Rattle.wire.specs.Numbers.{stored, listed}
-use Rattle.controller.specs.Fields.{Given, Lent}
 use Rattle.controller.specs.Lists.{In, mem, Rising}
 use Rattle.controller.specs.State.{view, sound_list}
 use Rattle.controller.specs.Thirds.{third, two_thirds}
@@ -67,22 +65,22 @@ pub record Settleable (r : Settled) (x count h : ℕ) (e k : List ℕ) : Type 0 
   pub some : 0 < h
   pub positive : 0 < count → 0 < x
 
-pub record Walkable (own b starts counts sent : Given) (m h known : ℕ) (e k : Given) : Type 0 where
-  pub opens : Opens own.now b.now starts.now counts.now sent.now m
+pub record Walkable (own b starts counts sent : List ℕ) (m h known : ℕ) (e k : List ℕ) : Type 0 where
+  pub opens : Opens own b starts counts sent m
   pub most : h ≤ max_numbers
   pub some : 0 < h
-  pub empty : e.now ≡ (stored []).at
-  pub candidates : sound_list (in_places known k.now) ≡ true
+  pub empty : e ≡ (stored []).at
+  pub candidates : sound_list (in_places known k) ≡ true
 
-pub record OneList (own : Given) (n m h known : ℕ) (e k : Given) : Type 0 where
-  pub inside : n ≤ length own.now
-  pub rises : Rising (take n own.now)
-  pub positive : (y : ℕ) → In y (take n own.now) → 0 < y
+pub record OneList (own : List ℕ) (n m h known : ℕ) (e k : List ℕ) : Type 0 where
+  pub inside : n ≤ length own
+  pub rises : Rising (take n own)
+  pub positive : (y : ℕ) → In y (take n own) → 0 < y
   pub few : m ≤ max_numbers
   pub most : h ≤ max_numbers
   pub some : 0 < h
-  pub empty : e.now ≡ (stored []).at
-  pub candidates : sound_list (in_places known k.now) ≡ true
+  pub empty : e ≡ (stored []).at
+  pub candidates : sound_list (in_places known k) ≡ true
 
 pub record Sorts (v : ℕ → ℕ) (h : ℕ) (c e k : List ℕ) (r : Settled) : Type 0 where
   pub echoes : r.fits ≡ true → HasJust (Echoed v h c) (in_places r.echoed e)
@@ -90,18 +88,16 @@ pub record Sorts (v : ℕ → ℕ) (h : ℕ) (c e k : List ℕ) (r : Settled) : 
   pub crowded : r.fits ≡ false → TooMany v h c
 
 -- settling x, which is in `count` of h lists, goes one number further
-abbrev pub SettlesNext : Settled → ℕ → ℕ → ℕ → Lent → Lent → Settled → Type 0
-SettlesNext s x count h e k r =
-    (v : ℕ → ℕ) (c : List ℕ) → v x ≡ count → Settles v h c x (before e) (before k) s → SettlesOn v h c x (after e) (after k) r
+abbrev pub SettlesNext : Settled → ℕ → ℕ → ℕ → List ℕ → List ℕ → Settled → List ℕ → List ℕ → Type 0
+SettlesNext s x count h e k r e' k' = (v : ℕ → ℕ) (c : List ℕ) → v x ≡ count → Settles v h c x e k s → SettlesOn v h c x e' k' r
 
 -- the numbers of the m open lists are settled, from the candidates that were known
-abbrev pub SortsAll : Lent → Lent → Lent → Lent → Lent → ℕ → ℕ → ℕ → Lent → Lent → Settled → Type 0
-SortsAll own b starts counts sent m h known e k r =
-    Sorts (weighed (before own) (before b) (before starts) (before counts) (before sent) m) h (take known (before k)) (after e) (after k) r
+abbrev pub SortsAll : List ℕ → List ℕ → List ℕ → List ℕ → List ℕ → ℕ → ℕ → ℕ → List ℕ → Settled → List ℕ → List ℕ → Type 0
+SortsAll own b starts counts sent m h known k r e' k' = Sorts (weighed own b starts counts sent m) h (take known k) e' k' r
 
 -- those of the first n places of one list that m sent are settled
-abbrev pub SortsOne : Lent → ℕ → ℕ → ℕ → ℕ → Lent → Lent → Settled → Type 0
-SortsOne own n m h known e k r = Sorts (λ y. cond (mem y (take n (before own))) m 0) h (take known (before k)) (after e) (after k) r
+abbrev pub SortsOne : List ℕ → ℕ → ℕ → ℕ → ℕ → List ℕ → Settled → List ℕ → List ℕ → Type 0
+SortsOne own n m h known k r e' k' = Sorts (λ y. cond (mem y (take n own)) m 0) h (take known k) e' k' r
 
 abbrev pub Tallies : State → List ℕ → List ℕ → List ℕ → Settled → Type 0
 Tallies s b e k r = Sorts (tally (lists (received_by s b))) (length (received_by s b).heard) (listed s.candidates) e k r

@@ -1,6 +1,6 @@
 -- Laws of bits: many numbers are looked at together, joined by `|`.
 use Rattle.std.specs.Prelude.{ℕ, ◌&&◌, ◌≡◌, eqb}
-use Rattle.std.proofs.Math.Bool.{and_false}
+use Rattle.std.proofs.Math.Bool.{and-false}
 use Rattle.std.proofs.Math.Decide.{ℕ_discrete}
 use Rattle.std.proofs.Common.{arith, eq-eqb, ne_eqb}
 use Rattle.std.specs.Int.Bits.{bit_or, or_add_and}
@@ -15,7 +15,7 @@ or_zero a b =
     elim (ℕ_discrete a 0) [
       | yes e ↦ elim (ℕ_discrete b 0) [
         | yes f ↦ rw (eq-eqb (bit_or a b) 0 (omega arith), eq-eqb a 0 e, eq-eqb b 0 f)
-        | no f ↦ rw (ne_eqb (bit_or a b) 0 (λ z. f (omega arith)), ne_eqb b 0 f, and_false (eqb a 0))
+        | no f ↦ rw (ne_eqb (bit_or a b) 0 (λ z. f (omega arith)), ne_eqb b 0 f, and-false (eqb a 0))
       ]
       | no e ↦ rw (ne_eqb (bit_or a b) 0 (λ z. e (omega arith)), ne_eqb a 0 e)
     ]

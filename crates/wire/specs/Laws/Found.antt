@@ -1,7 +1,7 @@
 -- Laws of what is found under a number: the answer tells what there is, and the order of entries does not matter.
 use Rattle.std.specs.Prelude.{ℕ, zero, suc, ◌+◌, ◌<◌, Bool, true, false, cond, ◌&&◌, ◌⊎◌, ◌≢◌, ◌≡◌, refl, eqb, length, get_or, take, drop}
 use Rattle.std.proofs.Math.Bool.{and-eq-true_iff, and_assoc, and_comm}
-use Rattle.std.proofs.Common.{true≢false, inl, inr, sym, ap, ap₂, ◌∙◌, eqb-true, eq-eqb, ne_eqb, arith}
+use Rattle.std.proofs.Common.{true≢false, inl, inr, sym, subst, ap, ap₂, ◌∙◌, eqb-true, eq-eqb, ne_eqb, arith}
 use mathlib.Core.List.Memᴰ
 use mathlib.Core.List.{List, [], ◌∷◌, map, Memᴰ, Permᴰ}
 use Rattle.std.proofs.Math.Decide.{ℕ_discrete}
@@ -73,7 +73,7 @@ beside b several = several
 pub among_step : (b : List ℕ) (bs : List (List ℕ)) → among_frames (b ∷ bs) ≡ beside b (among_frames bs)
 among_step b [] = refl
 among_step b (c ∷ cs) = elim (same_or_apart b c) [
-  | inl e ↦ rw (e, same_self c) (same (all_same c cs))
+  | inl e ↦ subst (λ (x : List ℕ). among_frames (x ∷ c ∷ cs) ≡ beside x (among_frames (c ∷ cs))) (sym e) (rw (same_self c) (same (all_same c cs)))
   | inr d ↦ rw d.there (apart (all_same c cs) d.there)
 ]
   where

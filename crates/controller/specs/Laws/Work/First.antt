@@ -1,6 +1,6 @@
 -- Laws of the record beside those heard, as first.rt tests it, and of lists, as sound.rt does: counts of zeros say what the rules say place by place.
 use Rattle.std.specs.Prelude.{ℕ, zero, suc, ◌+◌, ◌-◌, ◌≤◌, ◌<◌, Bool, true, false, not, cond, ◌&&◌, List, [], ◌∷◌, ◌++◌, ◌≢◌, ◌≡◌, refl, ltb, eqb, get_or, take, drop, replicate}
-use Rattle.std.proofs.Math.Bool.{and_assoc, and_false}
+use Rattle.std.proofs.Math.Bool.{and_assoc, and-false}
 use mathlib.Core.List.Memᴰ
 use Rattle.std.proofs.Common.{inl, inr, ◌∙◌, arith, eqb-true, eq-eqb, ne_eqb, lt-ltb, le-leb, length-drop, take-append-drop, length-take-le}
 use Rattle.std.proofs.Math.Path.{sym, ap}
@@ -13,7 +13,7 @@ use Rattle.wire.specs.Numbers.{rising, stored}
 use Rattle.controller.specs.Lists.{In, count_if, Rising}
 use Rattle.controller.specs.State.{same, recorded, first_fits, alongside, sound_beside}
 use Rattle.controller.specs.Work.First.{is_zero, timely}
-use Rattle.controller.specs.Laws.Lists.{true_or_false, get_d_in, count_append, count_further, count_none, count_short, count_split, rising_gives}
+use Rattle.controller.specs.Laws.Lists.{true_or_false, get_or_in, count_append, count_further, count_none, count_short, count_split, rising_gives}
 use Rattle.controller.specs.Laws.State.{same_gives, same_append}
 
 -- ---- counting
@@ -32,7 +32,7 @@ zeros_few s i h = omega (arith, count_split is_zero (take i s), length-take-le i
 -- two tests in the other order
 swap : (a b c : Bool) → (a && (b && c)) ≡ (b && (a && c))
 swap true b c = refl
-swap false b c = sym (and_false b)
+swap false b c = sym (and-false b)
 
 -- what stands beside another's number: not 0, and timely
 fits_other : (own x t : ℕ) → x ≢ own → first_fits own x t ≡ (not (is_zero t) && ltb t last_round)
@@ -59,7 +59,7 @@ fits_others own (x ∷ l) (t ∷ u) apart e =
 zero_counted : (u : List ℕ) (i : ℕ) → i < length u → (is_zero (get_or u i 0) && eqb (count_if is_zero u) 0) ≡ false
 zero_counted u i h = elim (true_or_false (is_zero (get_or u i 0))) [
   | inl z ↦
-      let others = count_short (λ t. not (is_zero t)) (get_or u i 0) (get_d_in u i h) (ap not z) in
+      let others = count_short (λ t. not (is_zero t)) (get_or u i 0) (get_or_in u i h) (ap not z) in
       rw (z, ne_eqb (count_if is_zero u) 0 (λ q. absurd (omega (arith, count_split is_zero u))))
   | inr z ↦ rw z
 ]
@@ -77,7 +77,7 @@ fits_used (x ∷ l) (t ∷ u) zero up e h =
     ]
 fits_used (x ∷ l) (t ∷ u) (suc i) up e h =
     let own = get_or l i 0 in
-    let here = fits_other own x t (λ q. absurd (omega (arith, up.0 own (get_d_in l i (omega arith))))) in
+    let here = fits_other own x t (λ q. absurd (omega (arith, up.0 own (get_or_in l i (omega arith))))) in
     let rest = fits_used l u i up.1 (omega arith) (omega arith) in
     elim (true_or_false (is_zero t)) [
       | inl z ↦ rw (here, z, eqb-suc-suc (count_if is_zero u) 0, zero_counted u i (omega arith))
@@ -129,7 +129,7 @@ join : (a b c p q z : Bool) → (b ≡ true → c ≡ z) → (z ≡ true → q �
 join false b c p q z counted timed = refl
 join true false c p q z counted timed = refl
 join true true c p q true counted timed = rw (counted refl, timed refl)
-join true true c p q false counted timed = rw (counted refl, and_false p)
+join true true c p q false counted timed = rw (counted refl, and-false p)
 
 module _ (w : List ℕ) (n : ℕ) (places : length w ≡ max_numbers) (fits : n ≤ max_numbers) where
   abbrev used : List ℕ

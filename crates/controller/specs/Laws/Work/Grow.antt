@@ -20,9 +20,9 @@ use Rattle.controller.specs.Laws.State.{rules_give, sound_list_gives}
 use Rattle.controller.specs.declared.state.State.{State}
 use Rattle.controller.specs.declared.tally.Settled.{Settled}
 
-and_false : (b : Bool) → (b && false) ≡ false
-and_false true = refl
-and_false false = refl
+and-false : (b : Bool) → (b && false) ≡ false
+and-false true = refl
+and-false false = refl
 
 -- a stored list that holds just the numbers of a rising list is its stored form
 holds_stored : {P : ℕ → Type 0} (n : Numbers) (l : List ℕ) → HasJust P n → Rising l → ((y : ℕ) → P y → In y l) → ((y : ℕ) → In y l → P y) → n ≡ stored l
@@ -40,7 +40,7 @@ module _ (c : Rotor) (l : ReceivedLists) (some : 0 < length l.heard) where
   too_many : TooMany (tally l) (length l.heard) c.candidates
       → (leb (length (candidates_after c l)) max_numbers && leb (length (echoed c l)) max_numbers) ≡ false
   too_many (inl crowd) =
-      rw (crowd_many (echoed c l) crowd (λ y p. (echoed_in c l some).1 p)) (and_false (leb (length (candidates_after c l)) max_numbers))
+      rw (crowd_many (echoed c l) crowd (λ y p. (echoed_in c l some).1 p)) (and-false (leb (length (candidates_after c l)) max_numbers))
   too_many (inr crowd) = rw (crowd_many (candidates_after c l) crowd (λ y p. (candidates_in_lem c l some).1 p))
 
 -- the lists as they stand then

@@ -13,7 +13,7 @@ use Rattle.controller.specs.Lists.{mem, Rising}
 use Rattle.controller.specs.Work.Lists.{below}
 use Rattle.controller.specs.Work.Opened.{total, end_mark, max_lists, open_list, Opens, weighed}
 use Rattle.controller.specs.Work.Heads.{slots, key_of, Stands, Standing, Moves, lesser_of, sibling_of, Ordered, Roomy, Passes}
-use Rattle.controller.specs.Laws.Lists.{get_d_inside, count_none}
+use Rattle.controller.specs.Laws.Lists.{get_or_inside, count_none}
 use Rattle.controller.specs.Laws.Work.Opened.{list_from_length}
 use Rattle.controller.specs.Laws.Work.Lists.{below_past, below_finds, below_length, below_misses}
 use Rattle.controller.specs.Laws.Work.Total.{total_same, total_one, total_none}
@@ -26,7 +26,7 @@ use Rattle.controller.specs.Laws.Work.Weights.{weighed_most}
 -- the number at the place of x is not below x
 head_low : (x : ℕ) (l : List ℕ) → Rising l → x ≤ end_mark → x ≤ get_or l (below x l) end_mark
 head_low x l up h = elim (dec_lt (below x l) (length l)) [
-  | yes k ↦ rw (get_d_inside l (below x l) end_mark 0 k) (elim (dec_lt (get_or l (below x l) 0) x) [
+  | yes k ↦ rw (get_or_inside l (below x l) end_mark 0 k) (elim (dec_lt (get_or l (below x l) 0) x) [
     | yes lt ↦ absurd (omega (arith, below_past x l (below x l) up k lt))
     | no n ↦ omega arith
   ])
@@ -35,7 +35,7 @@ head_low x l up h = elim (dec_lt (below x l) (length l)) [
 
 head_mem : (x : ℕ) (l : List ℕ) → Rising l → x < end_mark → eqb (get_or l (below x l) end_mark) x ≡ mem x l
 head_mem x l up h = elim (dec_lt (below x l) (length l)) [
-  | yes k ↦ rw (get_d_inside l (below x l) end_mark 0 k) (below_finds x l up k)
+  | yes k ↦ rw (get_or_inside l (below x l) end_mark 0 k) (below_finds x l up k)
   | no k ↦ rw (get_or-eq_default l end_mark {n = below x l} (omega arith), ne_eqb end_mark x (omega arith), below_misses x l (omega arith))
 ]
 

@@ -20,7 +20,7 @@ use Rattle.controller.specs.State.{sound_list}
 use Rattle.controller.specs.Received.{senders}
 use Rattle.controller.specs.Work.Lists.{below, inserted_at, opened}
 use Rattle.controller.specs.Work.Received.{others_only, heard_after, senders_from, note_on, HearsFrom, Hears}
-use Rattle.controller.specs.Laws.Lists.{count_short, get_d_in, in_mem, inside_length, out_mem, insert_in, insert_known, insert_rising, insert_all_in}
+use Rattle.controller.specs.Laws.Lists.{count_short, get_or_in, in_mem, inside_length, out_mem, insert_in, insert_known, insert_rising, insert_all_in}
 use Rattle.controller.specs.Laws.Lists.{rising_at, rising_no_repeats, rising_place}
 use Rattle.controller.specs.Laws.Received.{senders_step, sender_in}
 use Rattle.controller.specs.Laws.State.{ListTests, sound_list_gives, sound_list_test}
@@ -125,7 +125,7 @@ module _ {own : ℕ} {b l : List ℕ} {list : Numbers} {f : List ℕ} {i : ℕ} 
       old_note k h =
           let y = get_or (listed list) k 0 in
           let inside : k < length (listed list) = omega (arith, was.used) in
-          let other : x ≢ y = λ e. out (Memᴰ.cast e (get_d_in (listed list) k inside)) in
+          let other : x ≢ y = λ e. out (Memᴰ.cast e (get_or_in (listed list) k inside)) in
           so_far.notes k inside ∙ sym (note_step y ∙ rw (ne_eqb x y other))
 
       new_notes : (j : ℕ) → j < list.len + 1 → get_or (opened p (place b i) list.len f) j 0 ≡ note_on b (get_or longer j 0) i

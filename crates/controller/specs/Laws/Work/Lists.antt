@@ -10,7 +10,7 @@ use Rattle.wire.specs.Numbers.{stored, listed}
 use Rattle.wire.specs.declared.frame.Numbers.{Numbers}
 use Rattle.controller.specs.Lists.{In, mem, insert, Rising}
 use Rattle.controller.specs.Work.Lists.{below, absent, found_in, inserted_at, opened}
-use Rattle.controller.specs.Laws.Lists.{true_or_false, out_mem, get_d_in, count_none, count_short, count_split, count_inside}
+use Rattle.controller.specs.Laws.Lists.{true_or_false, out_mem, get_or_in, count_none, count_short, count_split, count_inside}
 use Rattle.controller.specs.Laws.Lists.{rising_at, rising_no_repeats, rising_place, insert_in, mem_in, mem_out}
 
 -- ---- the place of a number
@@ -20,7 +20,7 @@ pub below_past : (x : ℕ) (l : List ℕ) (i : ℕ) → Rising l → i < length 
 below_past x [] i up h lt = absurd (omega arith)
 below_past x (y ∷ l) zero up h lt = rw (lt-ltb y x lt) (omega arith)
 below_past x (y ∷ l) (suc i) up h lt =
-    let first : y < x = omega (arith, up.0 (get_or l i 0) (get_d_in l i (omega arith))) in
+    let first : y < x = omega (arith, up.0 (get_or l i 0) (get_or_in l i (omega arith))) in
     rw (lt-ltb y x first) (omega (arith, below_past x l i up.1 (omega arith) lt))
 
 pub below_within : (x : ℕ) (l : List ℕ) (i : ℕ) → Rising l → i < length l → x ≤ get_or l i 0 → below x l ≤ i
@@ -36,7 +36,7 @@ below_within x (y ∷ l) (suc i) up h le = elim (true_or_false (ltb y x)) [
 pub below_finds : (x : ℕ) (l : List ℕ) → Rising l → below x l < length l → eqb (get_or l (below x l) 0) x ≡ mem x l
 below_finds x l up h = elim (true_or_false (mem x l)) [
   | inl t ↦ rw t (eq-eqb _ x (rising_place x l up (mem_in l t)))
-  | inr t ↦ rw t (ne_eqb _ x (λ e. mem_out l t (Memᴰ.cast (sym e) (get_d_in l (below x l) h))))
+  | inr t ↦ rw t (ne_eqb _ x (λ e. mem_out l t (Memᴰ.cast (sym e) (get_or_in l (below x l) h))))
 ]
 
 pub below_length : (x : ℕ) (l : List ℕ) → below x l ≤ length l
@@ -71,7 +71,7 @@ pub stands_there : (n : Numbers) (x i : ℕ) → Rising (listed n) → i < n.len
     → In x (listed n) × (i ≡ below x (listed n))
 stands_there n x i up used inside e =
     let here : get_or (listed n) i 0 ≡ x = get_or-take n.len n.at i 0 used ∙ e in
-    (Memᴰ.cast (sym here) (get_d_in (listed n) i inside), sym (rising_at (listed n) i up inside) ∙ ap (λ (y : ℕ). below y (listed n)) here)
+    (Memᴰ.cast (sym here) (get_or_in (listed n) i inside), sym (rising_at (listed n) i up inside) ∙ ap (λ (y : ℕ). below y (listed n)) here)
 
 pub below_more : (x y : ℕ) (l : List ℕ) → x ≤ y → below x l ≤ below y l
 below_more x y [] h = omega arith

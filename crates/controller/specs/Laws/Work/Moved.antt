@@ -18,7 +18,7 @@ use Rattle.wire.specs.declared.frame.Numbers.{Numbers}
 use Rattle.wire.specs.Tray.{Entry}
 use Rattle.controller.specs.First.{first_of, firsts_after, rounds_after}
 use Rattle.controller.specs.Laws.First.{alongside_length}
-use Rattle.controller.specs.Laws.Lists.{true_or_false, in_or_not, in_mem, mem_in, get_d_in, count_none, count_short, rising_at, inside_length, get_d_inside}
+use Rattle.controller.specs.Laws.Lists.{true_or_false, in_or_not, in_mem, mem_in, get_or_in, count_none, count_short, rising_at, inside_length, get_or_inside}
 use Rattle.controller.specs.Laws.Lists.{rising_no_repeats, rising_same}
 use Rattle.controller.specs.Laws.Received.{heard_in_lem}
 use Rattle.controller.specs.Laws.Work.Lists.{unused_from}
@@ -61,8 +61,8 @@ first_place [] w x up i = absurd (Memᴰ.not-nil i)
 first_place (y ∷ l) [] x up i = refl
 first_place (y ∷ l) (t ∷ w) x up i = elim (ℕ_discrete x y) [
   | yes e ↦
-      let none : below y l ≡ 0 = count_none (λ z. ltb z y) l (λ z j. le-ltb z y (omega (arith, up.0 z j))) in
-      rw (eq-eqb x y e, e, le-ltb y y (omega arith), none)
+      let none : below x l ≡ 0 = count_none (λ z. ltb z x) l (λ z j. le-ltb z x (omega (arith, e, up.0 z j))) in
+      rw (eq-eqb x y e, le-ltb y x (omega (arith, e)), none)
   | no d ↦ elim (Memᴰ.cases_cons i) [
     | inl e ↦ absurd (d e)
     | inr j ↦ rw (ne_eqb x y d, lt-ltb y x (up.0 x j)) (first_place l w x up.1 j)
@@ -76,8 +76,8 @@ moved_same l w t up short =
     let size : length (map f l) ≡ length l = length-map l f in
     let used : map f l ≡ take (length l) w = ext_get_or 0 (map f l) (take (length l) w) (size ∙ sym (length-take-le (length l) w short)) (λ j h.
     let inside : j < length l = omega (arith, size) in
-    get_d_inside (map f l) j 0 (f 0) h ∙ get_or-map f l j 0
-    ∙ rw (in_mem (get_d_in l j inside), rising_at l j up inside) (sym (get_or-take (length l) w j 0 inside))) in
+    get_or_inside (map f l) j 0 (f 0) h ∙ get_or-map f l j 0
+    ∙ rw (in_mem (get_or_in l j inside), rising_at l j up inside) (sym (get_or-take (length l) w j 0 inside))) in
     ap (λ (u : List ℕ). u ++ drop (length l) w) used ∙ take-append-drop (length l) w
 
 -- ---- the record after a tray

@@ -14,7 +14,7 @@ use Rattle.wire.specs.Notes.{no_frame, different}
 use Rattle.wire.specs.Tray.{entries}
 use Rattle.wire.specs.declared.found.Found.TheVariants.{At, Nothing, Several}
 use Rattle.wire.specs.declared.frame.Numbers.{Numbers}
-use Rattle.controller.specs.Laws.Lists.{get_d_in, in_mem, mem_in, mem_out, count_short, rising_place}
+use Rattle.controller.specs.Laws.Lists.{get_or_in, in_mem, mem_in, mem_out, count_short, rising_place}
 use Rattle.controller.specs.Laws.Received.{unheard_received, received_other, silent_bit, frame_bit, stand_in_bit, stand_in_list, received_says, received_opinion}
 use Rattle.controller.specs.Laws.State.{Sound, rules_give, sound_list_gives, rules_heard}
 use Rattle.controller.specs.Laws.Work.Tally.{nth_list}
@@ -84,7 +84,7 @@ module _ {s : State} {b f : List ℕ} (ready : Ready s b f) where
   unfolding receive
   ready_absent j h absent =
       let x = get_or (listed s.heard) j 0 in
-      let known : mem x (listed s.heard) ≡ true = in_mem (get_d_in (listed s.heard) j (omega (arith, h, ready_used))) in
+      let known : mem x (listed s.heard) ≡ true = in_mem (get_or_in (listed s.heard) j (omega (arith, h, ready_used))) in
       rw (known, ready_nothing j h ∙ absent)
 
   -- the list received under the number at place j

@@ -1,6 +1,6 @@
 -- Laws of soundness as sound.rt tests it: its parts, taken together, are the rules' `sound`.
 use Rattle.std.specs.Prelude.{ℕ, Bool, true, false, not, cond, ◌&&◌, ◌||◌, List, ◌≡◌, refl, leb, ltb, eqb}
-use Rattle.std.proofs.Math.Bool.{and-eq-true_iff, and-true, and_false}
+use Rattle.std.proofs.Math.Bool.{and-eq-true_iff, and-true, and-false}
 use Rattle.std.proofs.Common.{◌∙◌, leb-true, leb-false, lt-ltb, le-ltb}
 use Rattle.wire.specs.Frame.{round_fits}
 use Rattle.wire.specs.Numbers.{listed}
@@ -36,9 +36,9 @@ reorder : (round numbered heard lists said empty bits rounds : Bool)
     ≡ (lists && (heard && (round && said && empty && bits && numbered && rounds)))
 reorder true true true true said empty bits rounds = rw and-true
 reorder true true true false said empty bits rounds = refl
-reorder true true false lists said empty bits rounds = rw and_false
-reorder true false heard lists said empty bits rounds = rw (and_false, and_false, and_false)
-reorder false numbered heard lists said empty bits rounds = rw (and_false, and_false)
+reorder true true false lists said empty bits rounds = rw and-false
+reorder true false heard lists said empty bits rounds = rw (and-false, and-false, and-false)
+reorder false numbered heard lists said empty bits rounds = rw (and-false, and-false)
 
 pub lists_sound_heard : (s : State) → lists_sound s ≡ true → sound_list s.heard ≡ true
 lists_sound_heard s h =

@@ -84,6 +84,7 @@ settles_none v h n e k empty sound = record {
 
 -- the first number of a rising list that is not below x is at most any such
 below_first : (x y : ℕ) (l : List ℕ) → Rising l → In y l → x ≤ y → get_or l (below x l) end_mark ≤ y
+below_first x y [] up i le = elim i [ ]
 below_first x y (z ∷ l) up i le = elim (dec_lt z x) [
   | yes s ↦ rw (lt-ltb z x s) (elim (Memᴰ.cases_cons i) [ inl e ↦ absurd (omega (arith, e)) | inr j ↦ below_first x y l up.1 j le ])
   | no s ↦

@@ -1,0 +1,34 @@
+-- `controller::first::all_timely` meets its contract: the latest of those passed and those that are left are timely exactly if all are.
+use Prim.Native.Nat.{ℕ, ◌+◌, ◌-◌, ◌≤◌, ◌<◌}
+use Rattle.std.specs.Prelude.{Bool, refl, leb, length, drop}
+use Rattle.std.proofs.Math.Bool.{◌&&◌, and_assoc, and-true}
+use mathlib.Core.List.{List, ◌∷◌}
+use Rattle.std.proofs.Math.Path.{◌≡◌, ◌∙◌}
+use Rattle.std.proofs.Common.{sym, ap, add-one, rules, drop-cons}
+use Rattle.std.proofs.Math.Dec.{leb-suc-suc}
+use Rattle.std.proofs.Math.ListN.{get_or, drop_of_length-le}
+use Rattle.wire.specs.Limits.{max_numbers}
+use Rattle.controller.specs.Work.First.{timely}
+use Rattle.controller.proofs.first.all_timely.Goals as goal
+
+module _ (ok : Bool) (s : List ℕ) (i : ℕ) where
+  -- one turn: the place i goes over from those that are left to those passed
+  turn : i < length s → (ok && leb (get_or s i 0) 194 && timely (drop (i + 1) s)) ≡ (ok && timely (drop i s))
+  turn h =
+      let split : drop i s ≡ get_or s i 0 ∷ drop (i + 1) s = rw add-one (drop-cons s i 0 h) in
+      rw (split, leb-suc-suc (get_or s i 0) 194) (and_assoc ok (leb (get_or s i 0) 194) (timely (drop (i + 1) s)))
+
+  -- none is left
+  done : length s ≤ i → (ok && timely (drop i s)) ≡ ok
+  done h = rw (drop_of_length-le s {i = i} h) (and-true ok)
+
+pub loop-i-init : goal.loop-i-init
+loop-i-init c = (search rules, refl)
+
+pub loop-i-preserved : goal.loop-i-preserved
+loop-i-preserved c =
+    let later : leb c.later-last.result 194 ≡ (leb c.loop-i.last 194 && leb (get_or c.args.rounds.now c.loop-i.i 0) 194) = c.later-last.ensures 194 in
+    (search rules, ap (λ (t : Bool). t && timely (drop (c.loop-i.i + 1) c.args.rounds.now)) later ∙ turn (leb c.loop-i.last 194) c.args.rounds.now c.loop-i.i (search rules) ∙ c.loop-i.invariant.1)
+
+pub returns : goal.returns
+returns c = sym (done (leb c.loop-i.last 194) c.args.rounds.now c.loop-i.i (search rules)) ∙ c.loop-i.invariant.1

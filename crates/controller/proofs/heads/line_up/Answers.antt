@@ -1,0 +1,70 @@
+-- `controller::heads::line_up` meets its contract: the lists gone through stand at their first numbers, and `build` leaves the leaves as they are.
+use Prim.Native.Nat.{ℕ, ◌+◌, ◌-◌, ◌≤◌, ◌<◌}
+use Rattle.std.specs.Prelude.{List, set}
+use Rattle.std.proofs.Math.Path.{◌≡◌, ◌∙◌}
+use Rattle.std.proofs.Common.{sym, arith, rules}
+use Rattle.std.proofs.Math.ListN.{get_or}
+use Rattle.controller.specs.Work.Opened.{end_mark, max_lists, open_list}
+use Rattle.controller.specs.Work.Heads.{key_of, Roomy, Stands}
+use Rattle.controller.specs.Laws.Work.Heads.{stands_first, room_set, heads_set}
+use Rattle.controller.proofs.heads.line_up.Goals as goal
+
+-- the first j lists stand at their first numbers
+record Lining (own b s n : List ℕ) (m : ℕ) (t p i : List ℕ) (j : ℕ) : Type 0 where
+  room : Roomy t p i
+  lined : (k : ℕ) → k < j → Stands (open_list own b s n k) k 0 (get_or t (m + k) 0) (get_or p k 0) (get_or i k 0)
+
+lines : {own b s n : List ℕ} {m : ℕ} {t p i : List ℕ} {j : ℕ} (key next : ℕ) → Lining own b s n m t p i j → j < m → m ≤ max_lists
+    → key ≡ key_of j (get_or (open_list own b s n j) 0 end_mark) → next ≡ key_of j (get_or (open_list own b s n j) 1 end_mark)
+    → Lining own b s n m (set t (m + j) key) (set p j next) (set i j 1) (j + 1)
+lines {own} {b} {s} {n} {j = j} key next g h few e f =
+    let first = stands_first (open_list own b s n j) j key next e f in
+    record {
+      room = room_set j _ key next 1 g.room;
+      lined = λ k l. heads_set (λ r. Stands (open_list own b s n r) r 0) g.room few h first k (λ d. g.lined k (omega arith));
+    }
+
+pub loop-j-init : goal.loop-j-init
+loop-j-init c = record { room = c.requires.1; lined = λ k h. absurd (omega arith) }
+
+pub key_at-requires : goal.key_at-requires
+key_at-requires c =
+    let o = c.requires.0.1 in
+    let few = o.few in
+    (omega arith, (o.starts, o.counts, o.lies c.loop-j.j c.loop-j-test.true))
+
+pub key_at-requires-in-loop-j : goal.key_at-requires-in-loop-j
+key_at-requires-in-loop-j c =
+    let o = c.requires.0.1 in
+    let few = o.few in
+    (omega arith, (o.starts, o.counts, o.lies c.loop-j.j c.loop-j-test.true))
+
+pub loop-j-preserved : goal.loop-j-preserved
+loop-j-preserved c =
+    lines c.key_at.result c.key_at-in-loop-j.result c.loop-j.invariant c.loop-j-test.true c.requires.0.1.few
+    c.key_at.ensures c.key_at-in-loop-j.ensures
+
+pub build-requires : goal.build-requires
+build-requires c =
+    let o = c.requires.0.1 in
+    let few = o.few in
+    (o.some, omega arith)
+
+pub shape_of-tree : goal.shape_of-tree
+shape_of-tree c =
+    let at = (c) in
+    c.build.auto.tree ∙ at.loop-j.invariant.room.tree ∙ sym at.requires.1.tree
+
+pub shape_of-nexts : goal.shape_of-nexts
+shape_of-nexts c = let at = (c) in at.loop-j.invariant.room.nexts ∙ sym at.requires.1.nexts
+
+pub shape_of-at : goal.shape_of-at
+shape_of-at c = let at = (c) in at.loop-j.invariant.room.places ∙ sym at.requires.1.places
+
+pub returns : goal.returns
+returns c =
+    let at = (c) in
+    let over = c.loop-j-test.false in
+    let m = at.args.len in
+    let r = c.build.ensures in
+    (r.0, λ j h. rw (r.1 (m + j) (omega arith)) (at.loop-j.invariant.lined j (omega arith)))

@@ -1,0 +1,34 @@
+-- `controller::lists::open_at` meets its contract: the places always are those of the list opened at place i, once x is put there.
+use Prim.Native.Nat.{ℕ, ◌+◌, ◌-◌, ◌≤◌, ◌<◌}
+use Rattle.std.specs.Prelude.{List, length, set}
+use Rattle.std.proofs.Math.Path.{◌≡◌}
+use Rattle.std.proofs.Common.{arith, rules, length-set}
+use Rattle.std.proofs.Math.ListN.{get_or}
+use Rattle.wire.specs.Limits.{max_numbers}
+use Rattle.controller.specs.Laws.Work.Lists.{opened_first, opened_step}
+use Rattle.controller.specs.Work.Lists.{opened}
+use Rattle.controller.proofs.lists.open_at.Goals as goal
+
+turn : (x n i : ℕ) (s at : List ℕ) → 0 < i → i ≤ n → n ≤ length s → set at i x ≡ opened i x n s
+    → set (set at i (get_or at (i - 1) 0)) (i - 1) x ≡ opened (i - 1) x n s
+turn x n i s at p h k e =
+    let up : i - 1 + 1 ≡ i = omega arith in
+    rw up at (opened_step x n (i - 1) s at (omega arith) k (rw up e))
+
+pub loop-i-init : goal.loop-i-init
+loop-i-init c = (search rules, search rules, search rules, c.requires.0, c.requires.0, opened_first c.args.x c.args.len c.args.at.now (omega (arith, c.requires.2)))
+
+pub loop-i-preserved : goal.loop-i-preserved
+loop-i-preserved c = (
+  search rules,
+  search rules,
+  search rules,
+  search rules,
+  simp length-set c.loop-i.invariant.4,
+  turn c.args.x c.args.len c.loop-i.i c.args.at.now c.loop-i.at (search rules) (search rules) (search rules) c.loop-i.invariant.5,
+)
+
+pub returns : goal.returns
+returns c =
+    let e : c.loop-i.i ≡ c.args.to = search rules in
+    rw e at c.loop-i.invariant.5

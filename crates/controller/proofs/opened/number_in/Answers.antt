@@ -1,0 +1,45 @@
+-- `controller::opened::number_in` meets its contract: the own list's numbers are its first places, another's the tray's words, with none behind the last.
+use Prim.Native.Nat.{ℕ, ◌+◌, ◌*◌, ◌≤◌, ◌<◌}
+use Rattle.std.specs.Prelude.{cond, List, leb, length}
+use Rattle.std.proofs.Math.Logic.{◌≢◌}
+use Rattle.std.proofs.Math.Path.{◌≡◌, ◌∙◌}
+use Rattle.std.proofs.Common.{sym, arith, rules}
+use borrow.Author.Tests.{le-leb, eq-eqb, ne_eqb}
+use Rattle.std.proofs.Math.ListN.{get_or, get_or-eq_default}
+use Rattle.std.proofs.Math.Seq.{get_or-take}
+use Rattle.wire.specs.Limits.{number_width}
+use Rattle.wire.specs.Words.{word_at}
+use Rattle.controller.specs.Laws.Work.Opened.{list_from_length}
+use Rattle.controller.specs.Laws.Lists.{get_or_inside}
+use Rattle.wire.specs.Laws.Words.{words_at_lem}
+use Rattle.controller.specs.Work.Opened.{end_mark, list_from, Lies}
+use Rattle.controller.proofs.opened.number_in.Goals as goal
+
+module _ (own b : List ℕ) (j start count i : ℕ) (lies : Lies own b j start count) where
+  own_number : i < count → j ≡ 0 → get_or own i 0 ≡ get_or (list_from own b j start count) i end_mark
+  own_number h e =
+      get_or_inside own i 0 end_mark (omega (arith, lies.mine e))
+      ∙ rw (eq-eqb j 0 e) (sym (get_or-take count own i end_mark h))
+
+  tray_number : (r : ℕ) → i < count → j ≢ 0 → r ≡ cond (leb (start + 4 * i + number_width) (length b)) (word_at b (start + 4 * i)) 0
+      → r ≡ get_or (list_from own b j start count) i end_mark
+  tray_number r h d e =
+      let inside : start + 4 * i + number_width ≤ length b = lies.inside (omega arith) i h in
+      e ∙ rw (le-leb _ _ inside, ne_eqb j 0 d) (sym (words_at_lem b start count i end_mark h))
+
+  no_number : count ≤ i → end_mark ≡ get_or (list_from own b j start count) i end_mark
+  no_number h = sym (get_or-eq_default (list_from own b j start count) end_mark (omega (arith, list_from_length own b j start count lies)))
+
+pub bounds-own-i : goal.bounds-own-i
+bounds-own-i c = omega (arith, c.if-i-count.true, c.requires.mine c.if-j-eq0.true)
+
+pub returns-then-j-eq0 : goal.returns-then-j-eq0
+returns-then-j-eq0 c =
+    let fits = c.shared-slice-known3.given c.args.i in
+    (own_number _ _ _ _ _ _ c.requires c.if-i-count.true c.if-j-eq0.true, omega arith)
+
+pub returns-else-j-eq0 : goal.returns-else-j-eq0
+returns-else-j-eq0 c = (tray_number _ _ _ _ _ _ c.requires _ c.if-i-count.true c.if-j-eq0.false c.read_number.ensures, omega arith)
+
+pub returns-else-i-count : goal.returns-else-i-count
+returns-else-i-count c = (no_number _ _ _ _ _ _ c.requires c.if-i-count.false, omega arith)

@@ -1,0 +1,49 @@
+-- `controller::own::count_list` meets its contract: after j turns so many of the first j lists are the frame's.
+use Prim.Native.Nat.{ℕ, ◌+◌, ◌-◌, ◌≤◌, ◌<◌}
+use Rattle.std.specs.Prelude.{List}
+use Rattle.std.proofs.Common.{inl, inr, arith, rules}
+use Rattle.std.proofs.Math.Path.{◌≡◌}
+use Rattle.std.proofs.Math.ListN.{get_or}
+use Rattle.wire.specs.Frame.{content}
+use Rattle.wire.specs.Limits.{max_numbers}
+use Rattle.controller.specs.Laws.Work.Own.{agrees_none, agrees_more, agrees_same}
+use Rattle.controller.specs.Received.{list_in}
+use Rattle.controller.specs.Work.Opened.{list_under}
+use Rattle.controller.specs.Work.Own.{Agrees}
+use Rattle.controller.proofs.own.count_list.Goals as goal
+
+-- the list that note j is of, and the frame's, in a round
+abbrev noted : List ℕ → List ℕ → List ℕ → ℕ → ℕ → List ℕ
+noted frame tray notes round j = list_under round (list_in (content frame round)) tray (get_or notes j 0)
+
+pub loop-j-init : goal.loop-j-init
+loop-j-init c = (omega arith, omega arith, λ round. agrees_none (noted c.args.frame.now c.args.tray.now c.args.notes.now round) (list_in (content c.args.frame.now round)))
+
+pub bounds-notes-j : goal.bounds-notes-j
+bounds-notes-j c = omega (arith, (let it : c.loop-j.j < max_numbers = omega (arith, c.loop-j-test.true, c.requires) in it))
+
+pub loop-j-smaller : goal.loop-j-smaller
+loop-j-smaller c = omega (arith, c.loop-j-test.true)
+
+pub loop-j-preserved : goal.loop-j-preserved
+loop-j-preserved c =
+    let a = c.args in
+    let frame = a.frame.now in
+    let lists : ℕ → ℕ → List ℕ = noted frame a.tray.now a.notes.now in
+    elim c.if-sent_list.branch [
+      | inl e ↦ (
+        omega (arith, c.loop-j-test.true),
+        omega (arith, e.1, c.loop-j.invariant.1),
+        λ round. rw e.1 (agrees_more (lists round) (list_in (content frame round)) (c.loop-j.invariant.2 round) (c.sent_list.ensures round e.0.true)),
+      )
+      | inr e ↦ (
+        omega (arith, c.loop-j-test.true),
+        omega (arith, e.1, c.loop-j.invariant.1),
+        λ round. rw e.1 (agrees_same (lists round) (list_in (content frame round)) (c.loop-j.invariant.2 round)),
+      )
+    ]
+
+pub returns : goal.returns
+returns c =
+    let all : c.loop-j.j ≡ c.args.h = omega (arith, c.loop-j.invariant.0, c.loop-j-test.false) in
+    record { few = omega (arith, c.loop-j.invariant.1, all); agrees = λ round. rw all at (c.loop-j.invariant.2 round) }

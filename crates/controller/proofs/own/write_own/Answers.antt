@@ -1,0 +1,51 @@
+-- `controller::own::write_own` meets its contract: what is laid out are the bytes of the frame of one that is silent, which is allowed since the state is
+-- sound; so it reads as its content, whose list is the own one.
+use Prim.Native.Nat.{ℕ, ◌-◌, ◌≤◌}
+use Rattle.std.specs.Prelude.{true, cond, List, refl, eqb, length, drop}
+use Rattle.std.proofs.Common.{inl, inr, ap, arith, rules}
+use Rattle.std.proofs.Math.Path.{◌≡◌, sym, ◌∙◌}
+use Rattle.std.proofs.Math.Nat.{sub-zero}
+use borrow.Author.Tests.{eq-eqb, ne_eqb}
+use Rattle.std.proofs.Math.ListN.{take}
+use Rattle.std.proofs.Math.Seq.{take_at}
+use Rattle.controller.specs.Fields.{state_of}
+use Rattle.controller.specs.Laws.Received.{silent_bit, stand_in_writable, stand_in_bit, stand_in_list}
+use Rattle.controller.specs.Laws.State.{rules_give}
+use Rattle.controller.specs.Laws.Work.Opened.{own_list}
+use Rattle.controller.specs.Received.{stand_in, list_in}
+use Rattle.controller.specs.State.{view, undecided, sound_rules}
+use Rattle.controller.specs.Work.Received.{sent_count}
+use Rattle.controller.specs.declared.state.Fields.{Fields}
+use Rattle.wire.specs.Frame.{content, kind_of, frame_bytes}
+use Rattle.wire.specs.Laid.{FrameLays}
+use Rattle.wire.specs.Laws.Frame.{reads_written}
+use Rattle.wire.specs.Laws.Laid.{lays_written, lays_inside}
+use Rattle.wire.specs.Limits.{max_frame}
+use Rattle.controller.proofs.own.write_own.Goals as goal
+
+module _ (f : Fields) (h d e : List ℕ) (sound : sound_rules (state_of f h d e) ≡ true) (active : undecided (view (state_of f h d e)) ≡ true) where
+  reads : (given : List ℕ) → max_frame ≤ length given → (b n r : ℕ) (left : List ℕ) → b ≡ silent_bit (view (state_of f h d e)) → n ≡ sent_count f
+      → FrameLays f.round b (take (n - 0) e) given r left → list_in (content (take r left) f.round) ≡ take (sent_count f) e
+  unfolding stand_in
+  reads given room b n r left bit count lays =
+      let v = view (state_of f h d e) in
+      let whole = rules_give (state_of f h d e) sound in
+      let c = stand_in v in
+      let allowed = stand_in_writable v whole active in
+      let list = stand_in_list v ∙ own_list f h d e in
+      let w =
+      lays_written given r left c b (take (n - 0) e) allowed (bit ∙ sym (stand_in_bit v whole active)) (rw (sub-zero n, count) (sym list)) room lays in
+      let front : take r left ≡ frame_bytes c = rw (w.0, w.1) (take_at (frame_bytes c) (drop (length (frame_bytes c)) given) (length (frame_bytes c)) refl) in
+      rw front (ap list_in (reads_written c allowed) ∙ list)
+
+pub returns : goal.returns
+returns c =
+    let bit : c.if-kind_of-eq-TURN.bit ≡ cond (eqb (kind_of c.args.fields.round) 5) 2 c.args.fields.said = elim c.if-kind_of-eq-TURN.came [
+      | inl e ↦ rw (eq-eqb _ 5 (sym c.kind_of.ensures ∙ e.0.true)) e.1
+      | inr e ↦ rw (ne_eqb _ 5 (λ q. e.0.left (c.kind_of.ensures ∙ q))) e.1
+    ] in
+    record {
+      inside = omega (arith, lays_inside _ _ _ _ _ _ c.lay_frame.ensures, c.out.given);
+      own = λ h d sound active.
+          reads c.args.fields h d c.args.own.now sound active _ c.requires.1 _ _ _ _ bit c.sent_count-len.ensures c.lay_frame.ensures;
+    }

@@ -1,0 +1,62 @@
+-- `controller::received::senders_fit` meets its contract: the senders that are left fit exactly if all do.
+use Prim.Native.Nat.{ℕ, ◌+◌, ◌-◌, ◌≤◌, ◌<◌}
+use Rattle.std.specs.Prelude.{true, false, not}
+use Rattle.std.proofs.Math.Bool.{and-false}
+use mathlib.Core.List.{List, ◌∷◌}
+use Rattle.std.proofs.Math.Path.{◌≡◌, ◌∙◌}
+use Rattle.std.proofs.Common.{sym, ap, arith, rules}
+use Rattle.std.proofs.Math.Nat.{sub-zero}
+use borrow.Author.Tests.{eq-eqb, ne_eqb}
+use Rattle.controller.specs.Laws.Received.{senders_step}
+use Rattle.controller.specs.Lists.{mem}
+use Rattle.controller.specs.Received.{senders}
+use Rattle.controller.specs.Work.Received.{others_only}
+use Rattle.wire.specs.Tray.{word_of, sender, entries_from, entries}
+use Rattle.controller.proofs.received.senders_fit.Goals as goal
+
+-- the senders from entry i on
+abbrev rest : List ℕ → ℕ → ℕ → List ℕ
+rest b n i = senders (entries_from b (n - i) i)
+
+module _ (b : List ℕ) (own n i x : ℕ) (h : i < n) (e : x ≡ sender b i) where
+  next : rest b n i ≡ x ∷ rest b n (i + 1)
+  next = senders_step b n i h ∙ rw e
+
+  nobody : x ≡ 0 → false ≡ others_only own (rest b n i)
+  nobody z = rw (next, eq-eqb 0 x (sym z))
+
+  oneself : x ≡ own → false ≡ others_only own (rest b n i)
+  oneself o = rw (next, eq-eqb own x (sym o)) (sym (and-false (not (mem 0 (x ∷ rest b n (i + 1))))))
+
+  another : (x ≡ 0 → ⊥) → (x ≡ own → ⊥) → others_only own (rest b n (i + 1)) ≡ others_only own (rest b n i)
+  another z o = rw (next, ne_eqb 0 x (λ d. z (sym d)), ne_eqb own x (λ d. o (sym d)))
+
+done : (b : List ℕ) (own n i : ℕ) → n ≤ i → true ≡ others_only own (rest b n i)
+done b own n i h = let e : n - i ≡ 0 = omega arith in rw e
+
+pub loop-i-init : goal.loop-i-init
+unfolding entries
+loop-i-init c = (search rules, rw (c.entry_count-count.ensures, sub-zero))
+
+pub returns-then-x-eq0 : goal.returns-then-x-eq0
+returns-then-x-eq0 c =
+    let a = c.args in
+    nobody a.tray.now a.own c.entry_count-count.result c.loop-i.i _ c.loop-i-test.true ((let it : c.entry_sender-x.result ≡ sender ((c)).args.tray.now c.loop-i.i = c.entry_sender-x.ensures ∙ ap (λ (d : List ℕ). word_of d c.loop-i.i 0) c.directory-entries.ensures in it))
+    c.if-x-eq0.true ∙ c.loop-i.invariant.1
+
+pub returns-then-x-own : goal.returns-then-x-own
+returns-then-x-own c =
+    let a = c.args in
+    oneself a.tray.now a.own c.entry_count-count.result c.loop-i.i _ c.loop-i-test.true ((let it : c.entry_sender-x.result ≡ sender ((c)).args.tray.now c.loop-i.i = c.entry_sender-x.ensures ∙ ap (λ (d : List ℕ). word_of d c.loop-i.i 0) c.directory-entries.ensures in it))
+    c.if-x-own.true ∙ c.loop-i.invariant.1
+
+pub loop-i-preserved : goal.loop-i-preserved
+loop-i-preserved c =
+    let a = c.args in
+    let more = another a.tray.now a.own c.entry_count-count.result c.loop-i.i _ c.loop-i-test.true ((let it : c.entry_sender-x.result ≡ sender ((c)).args.tray.now c.loop-i.i = c.entry_sender-x.ensures ∙ ap (λ (d : List ℕ). word_of d c.loop-i.i 0) c.directory-entries.ensures in it)) in
+    (search rules, more c.if-x-eq0.false c.if-x-own.false ∙ c.loop-i.invariant.1)
+
+pub returns : goal.returns
+returns c =
+    let a = c.args in
+    done a.tray.now a.own c.entry_count-count.result c.loop-i.i c.loop-i-test.false ∙ c.loop-i.invariant.1

@@ -1,0 +1,62 @@
+-- `controller::received::short_head` meets its contract: a frame of eight bytes says a bit exactly if it is the header with that bit, and any other is void.
+use Prim.Native.Nat.{ℕ, ◌/◌, ◌%◌, ◌<◌}
+use Rattle.std.specs.Prelude.{Bool, true, false, cond, List, refl, eqb}
+use Rattle.std.proofs.Math.Logic.{◌≢◌}
+use Rattle.std.proofs.Math.Path.{◌≡◌}
+use Rattle.std.proofs.Common.{ap, arith, rules}
+use Rattle.std.proofs.Math.Decide.{ℕ_discrete}
+use borrow.Author.Tests.{eq-eqb, ne_eqb}
+use Rattle.wire.specs.Found.{meaning}
+use Rattle.wire.specs.Frame.{content, bit_in}
+use Rattle.wire.specs.Heads.{Short, head_from, head_of}
+use Rattle.wire.specs.Laws.Heads.{short_says, long_void}
+use Rattle.wire.specs.Limits.{frame_header}
+use Rattle.wire.specs.Notes.{no_frame}
+use Rattle.wire.specs.Tray.{part}
+use Rattle.wire.specs.Words.{Below}
+use Rattle.wire.specs.declared.found.Found.TheVariants.{At, Several}
+use Rattle.controller.specs.Received.{read_in}
+use Rattle.controller.specs.Work.Received.{bit_under, Votes}
+use Rattle.controller.proofs.received.short_head.Goals as goal
+
+-- two headers of a round are the same if they say the same
+same_head : (t d bit : ℕ) → eqb (head_of t d) (head_of t bit) ≡ eqb d bit
+same_head t d bit = elim (ℕ_discrete d bit) [
+  | yes e ↦ rw (eq-eqb d bit e, eq-eqb (head_of t d) (head_of t bit) (omega arith))
+  | no n ↦ rw (ne_eqb d bit n, ne_eqb (head_of t d) (head_of t bit) (λ e. n (omega arith)))
+]
+
+module _ (b : List ℕ) (k d t : ℕ) (short : Short t) (there : k ≢ 0) where
+  -- several frames, or one that is not of eight bytes
+  void : k % 65536 ≢ frame_header → bit_under t d b k ≡ 3
+  void long = rw (ne_eqb k 0 there) (pick (eqb k 1))
+    where
+      pick : (x : Bool) → bit_in (read_in t (meaning b (cond x Several (At (k / 65536) (k % 65536))))) ≡ 3
+      pick true = refl
+      pick false = ap bit_in (long_void b (k / 65536) (k % 65536) t short long)
+
+  no_vote : k % 65536 ≢ frame_header → Votes t d b k 0
+  no_vote long bit l =
+      let least = short.least in
+      rw (void long, ne_eqb 0 (head_of t bit) (λ e. omega arith), ne_eqb 3 bit (λ e. omega arith))
+
+  vote : Below 256 b → k % 65536 ≡ frame_header → (head : ℕ) → head ≡ head_from b (k / 65536) → Votes t d b k head
+  vote bytes eight head read bit l =
+      let one_frame : bit_under t d b k ≡ bit_in (content (part b (k / 65536) frame_header) t) =
+      rw (ne_eqb k 0 there, ne_eqb k 1 (λ e. omega arith), eight) in
+      rw (read, one_frame) (short_says b (k / 65536) t bit bytes short l)
+
+-- who has no entry says what oneself says
+pub returns-then-note-eq-NO_FRAME : goal.returns-then-note-eq-NO_FRAME
+returns-then-note-eq-NO_FRAME c t d short own bit l =
+    let quiet : c.args.note ≡ no_frame = c.if-note-eq-NO_FRAME.true in
+    let answer : eqb c.args.own (head_of t bit) ≡ eqb d bit = rw own (same_head t d bit) in
+    rw (eq-eqb _ _ quiet) answer
+
+pub returns-then-note-ne-FRAME_HEADER : goal.returns-then-note-ne-FRAME_HEADER
+returns-then-note-ne-FRAME_HEADER c t d short own = no_vote _ _ d t short c.if-note-eq-NO_FRAME.false c.if-note-ne-FRAME_HEADER.true
+
+pub returns : goal.returns
+returns c t d short own =
+    let bytes : Below 256 c.args.tray.now = λ i. let h = c.shared-slice-known.given i in omega arith in
+    vote _ _ d t short c.if-note-eq-NO_FRAME.false bytes c.if-note-ne-FRAME_HEADER.false _ c.read_head.ensures

@@ -1,0 +1,15 @@
+-- `controller::step::named` meets its contract: each branch gives the test of `named_state` its value.
+use Rattle.std.specs.Prelude.{true, false, leb}
+use Rattle.std.proofs.Math.Path.{◌≡◌}
+use Rattle.std.proofs.Common.{rules, le-leb}
+use Rattle.std.proofs.lemmas.Bool.{lt-leb}
+use Rattle.controller.specs.Work.Step.{named_state}
+use Rattle.controller.proofs.step.named.Goals as goal
+
+pub returns-then-next-phase : goal.returns-then-next-phase
+unfolding named_state
+returns-then-next-phase c = λ h e. rw ((let it : leb c.args.next.candidates c.args.phase ≡ true = le-leb _ _ c.if-next-phase.true in it), c.king_at.ensures)
+
+pub returns-else-next-phase : goal.returns-else-next-phase
+unfolding named_state
+returns-else-next-phase c = λ h e. rw ((let it : leb c.args.next.candidates c.args.phase ≡ false = lt-leb _ _ c.if-next-phase.false in it), c.king_at.ensures)

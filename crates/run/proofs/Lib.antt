@@ -1,0 +1,3 @@
+-- The proof of what is claimed of a run, and runs that are there.
+pub mod Argument
+pub mod Inhabitants
