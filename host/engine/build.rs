@@ -12,7 +12,7 @@ fn main() {
     println!("cargo:rerun-if-changed={}", archive.display());
     if !archive.is_file() {
         eprintln!("There is no {}.", archive.display());
-        eprintln!("Run `rt staticlib controller_c` in the repository's root, or name");
+        eprintln!("Run `rt lib` in the folder crates/controller_c, or name");
         eprintln!("the directory that has {ARCHIVE} in CONTROLLER_LIB_DIR.");
         process::exit(1);
     }
@@ -20,10 +20,10 @@ fn main() {
     println!("cargo:rustc-link-lib=static=controller_c");
 }
 
-/// CONTROLLER_LIB_DIR, else the repository's target/staticlib.
+/// CONTROLLER_LIB_DIR, else where rt writes it.
 fn directory() -> PathBuf {
     match env::var_os("CONTROLLER_LIB_DIR") {
         Some(dir) => PathBuf::from(dir),
-        None => PathBuf::from(env!("CARGO_MANIFEST_DIR")).join("../../target/staticlib"),
+        None => PathBuf::from(env!("CARGO_MANIFEST_DIR")).join("../../crates/controller_c/out"),
     }
 }

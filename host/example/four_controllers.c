@@ -8,7 +8,7 @@
  *
  * From the repository's root:
  *   cc -std=c99 -Wall -Wextra -Werror -pedantic -Iinclude \
- *      host/example/four_controllers.c target/staticlib/libcontroller_c.a -o four_controllers
+ *      host/example/four_controllers.c crates/controller_c/out/libcontroller_c.a -o four_controllers
  *   ./four_controllers | diff - host/example/four_controllers.stdout
  */
 #include <stdio.h>

@@ -15,7 +15,7 @@ pub fn root() -> PathBuf {
 pub fn archive() -> PathBuf {
     let folder = match env::var_os("CONTROLLER_LIB_DIR") {
         Some(dir) => PathBuf::from(dir),
-        None => root().join("target/staticlib"),
+        None => root().join("crates/controller_c/out"),
     };
     folder.join("libcontroller_c.a")
 }

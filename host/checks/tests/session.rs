@@ -1,7 +1,7 @@
 //! The session printer on inputs that end in each way an input can.
 //!
 //! `inputs/` has each input in hex, and beside it what the printer is to write. The
-//! program is the proved one, which `rt check session` makes.
+//! program is the proved one, which `rt run` in crates/session makes.
 
 #![cfg(not(feature = "fault"))]
 
@@ -17,12 +17,12 @@ use checks::{c, hex};
 /// What the printer writes for an input. It may end before it has read all of it,
 /// and then the rest cannot be handed over.
 fn printed(input: &[u8]) -> String {
-    let program = c::root().join("target/bin/session");
+    let program = c::root().join("crates/session/out/session");
     let mut running = Command::new(&program)
         .stdin(Stdio::piped())
         .stdout(Stdio::piped())
         .spawn()
-        .unwrap_or_else(|e| panic!("{}: {e}; `rt check session` makes it", program.display()));
+        .unwrap_or_else(|e| panic!("{}: {e}; `rt run` in crates/session makes it", program.display()));
     let _ = running.stdin.take().expect("its input").write_all(input);
     let ended = running.wait_with_output().expect("its output");
     assert!(ended.status.success());
