@@ -8,15 +8,19 @@ use Rattle.controller_c.specs.Laws.Image.{sound_image_gives, round_read, round_p
 use Rattle.controller_c.proofs.controller_first_round.Goals as goal
 
 pub bounds-image-place : goal.bounds-image-place
-bounds-image-place c = omega (arith, c.if-place-lt-MAX_NUMBERS.true, (sound_image_gives _ (let it : sound_image c.args.image.now ≡ true = sym c.is_sound_image.ensures ∙ c.if-is_sound_image.true in it)).whole)
+bounds-image-place c =
+    let sound = sym c.is_sound_image.ensures ∙ c.if-is_sound_image.true in
+    omega (arith, c.if-place-lt-MAX_NUMBERS.true, (sound_image_gives _ sound).whole)
 
 pub returns-then-place-lt-MAX_NUMBERS : goal.returns-then-place-lt-MAX_NUMBERS
 returns-then-place-lt-MAX_NUMBERS c =
-    let sound = (let it : sound_image c.args.image.now ≡ true = sym c.is_sound_image.ensures ∙ c.if-is_sound_image.true in it) in
+    let sound = sym c.is_sound_image.ensures ∙ c.if-is_sound_image.true in
     rw sound (round_read _ sound _ c.if-place-lt-MAX_NUMBERS.true)
 
 pub returns-else-place-lt-MAX_NUMBERS : goal.returns-else-place-lt-MAX_NUMBERS
-returns-else-place-lt-MAX_NUMBERS c = let sound = (let it : sound_image c.args.image.now ≡ true = sym c.is_sound_image.ensures ∙ c.if-is_sound_image.true in it) in rw sound (sym (round_past _ sound _ c.if-place-lt-MAX_NUMBERS.false))
+returns-else-place-lt-MAX_NUMBERS c =
+    let sound = sym c.is_sound_image.ensures ∙ c.if-is_sound_image.true in
+    rw sound (sym (round_past _ sound _ c.if-place-lt-MAX_NUMBERS.false))
 
 pub returns-else-is_sound_image : goal.returns-else-is_sound_image
 returns-else-is_sound_image c = rw (sym c.is_sound_image.ensures ∙ c.if-is_sound_image.false)

@@ -7,10 +7,10 @@ use Rattle.controller_c.specs.Laws.Image.{sound_image_gives}
 use Rattle.controller_c.proofs.field.Goals as goal
 
 pub word-requires : goal.word-requires
-word-requires c = omega (arith, (sound_image_gives _ (let it : sound_image c.args.image.now ≡ true = sym c.is_sound_image.ensures ∙ c.if-is_sound_image.true in it)).whole)
+word-requires c = omega (arith, (sound_image_gives _ (sym c.is_sound_image.ensures ∙ c.if-is_sound_image.true)).whole)
 
 pub returns-then-is_sound_image : goal.returns-then-is_sound_image
-returns-then-is_sound_image c = rw (let it : sound_image c.args.image.now ≡ true = sym c.is_sound_image.ensures ∙ c.if-is_sound_image.true in it) c.word.ensures
+returns-then-is_sound_image c = rw (sym c.is_sound_image.ensures ∙ c.if-is_sound_image.true) c.word.ensures
 
 pub returns-else-is_sound_image : goal.returns-else-is_sound_image
 returns-else-is_sound_image c = rw (sym c.is_sound_image.ensures ∙ c.if-is_sound_image.false)

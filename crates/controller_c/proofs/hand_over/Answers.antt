@@ -4,12 +4,11 @@ use borrow.Author.Tests.{eq-eqb, ne_eqb}
 use Rattle.controller_c.proofs.hand_over.Goals as goal
 
 pub lay_out-requires : goal.lay_out-requires
-lay_out-requires c = (((c)).requires.made c.if-refusal-eq0.true, ((c)).requires.whole)
+lay_out-requires c = (c.requires.made c.if-refusal-eq0.true, c.requires.whole)
 
 pub returns-then-refusal-eq0 : goal.returns-then-refusal-eq0
 returns-then-refusal-eq0 c =
-    let t = ((c)).if-refusal-eq0.true in
-    record { number = search rules; image = rw (eq-eqb _ _ t) c.lay_out.ensures; written = search rules }
+    record { number = search rules; image = rw (eq-eqb _ _ c.if-refusal-eq0.true) c.lay_out.ensures; written = search rules }
 
 pub returns-else-refusal-eq0 : goal.returns-else-refusal-eq0
 returns-else-refusal-eq0 c = record { number = search rules; image = rw (ne_eqb _ _ c.if-refusal-eq0.false); written = search rules }

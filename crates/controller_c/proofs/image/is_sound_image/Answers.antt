@@ -8,10 +8,10 @@ use Rattle.controller_c.specs.Laws.Image.{shaped_length}
 use Rattle.controller_c.proofs.image.is_sound_image.Goals as goal
 
 pub take_apart-fields-requires : goal.take_apart-fields-requires
-take_apart-fields-requires c = (let it : length c.args.image.now ≡ image_bytes = shaped_length _ (sym c.is_shaped.ensures ∙ c.if-is_shaped.true) in it)
+take_apart-fields-requires c = shaped_length _ (sym c.is_shaped.ensures ∙ c.if-is_shaped.true)
 
 pub take_rounds-since-requires : goal.take_rounds-since-requires
-take_rounds-since-requires c = (let it : length c.args.image.now ≡ image_bytes = shaped_length _ (sym c.is_shaped.ensures ∙ c.if-is_shaped.true) in it)
+take_rounds-since-requires c = shaped_length _ (sym c.is_shaped.ensures ∙ c.if-is_shaped.true)
 
 pub returns-then-is_shaped : goal.returns-then-is_shaped
 unfolding sound_image

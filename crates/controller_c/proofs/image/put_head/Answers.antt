@@ -17,10 +17,7 @@ bounds-image-15 c = omega (arith, simp length-set at c.put_word-3.auto.s)
 
 pub shape_of-image : goal.shape_of-image
 shape_of-image c =
-    simp length-set
-    (simp length-set at c.put_word-3.auto.s
-    ∙ ((c)).put_word-2.auto.s
-    ∙ ((((c)))).put_word.auto.s)
+    simp length-set (simp length-set at c.put_word-3.auto.s ∙ c.put_word-2.auto.s ∙ c.put_word.auto.s)
 
 pub returns : goal.returns
 returns c = cc

@@ -10,11 +10,8 @@ use Rattle.controller_c.specs.Image.{places_at}
 use Rattle.controller_c.specs.Words.{number_at, numbers_at}
 use Rattle.controller_c.specs.Laws.Words.{numbers_length}
 use Rattle.controller_c.proofs.Stores.{sets_whole}
+use Rattle.controller_c.proofs.image.take_places.Invariants.{rest}
 use Rattle.controller_c.proofs.image.take_places.Goals as goal
-
--- what is left to read at turn i
-abbrev rest : List ℕ → ℕ → ℕ → List ℕ
-rest b from i = numbers_at b (from + number_width * i) (max_numbers - i)
 
 module _ (b : List ℕ) (from : ℕ) where
   turn : (i x : ℕ) (l : List ℕ) → i < max_numbers → x ≡ number_at b (from + number_width * i)

@@ -8,7 +8,7 @@ use Rattle.controller_c.specs.Words.{numbers_at}
 use Rattle.controller_c.proofs.image.take_places.Given as goal
 
 -- what is left to read at turn i
-abbrev rest : List ℕ → ℕ → ℕ → List ℕ
+abbrev pub rest : List ℕ → ℕ → ℕ → List ℕ
 rest b from i = numbers_at b (from + number_width * i) (max_numbers - i)
 
 abbrev pub invariant-loop-i : goal.invariant-loop-i

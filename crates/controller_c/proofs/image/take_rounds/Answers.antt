@@ -6,15 +6,12 @@ use Rattle.std.proofs.Common.{add-one, arith, rules}
 use Rattle.std.proofs.Math.ListN.{get_or}
 use Rattle.std.proofs.lemmas.List.{length-replicate}
 use Rattle.std.proofs.lemmas.List.Edits.{sets}
-use Rattle.std.proofs.Math.Seq.{slice, slice-cons, slice_empty, length-slice}
+use Rattle.std.proofs.Math.Seq.{slice-cons, slice_empty, length-slice}
 use Rattle.wire.specs.Limits.{max_numbers}
 use Rattle.controller_c.specs.Image.{image_bytes, since_at, reserved_at, rounds_at}
 use Rattle.controller_c.proofs.Stores.{sets_whole}
+use Rattle.controller_c.proofs.image.take_rounds.Invariants.{rest}
 use Rattle.controller_c.proofs.image.take_rounds.Goals as goal
-
--- what is left to read at turn i
-abbrev rest : List ℕ → ℕ → List ℕ
-rest b i = slice (since_at + i) reserved_at b
 
 module _ (b : List ℕ) (whole : length b ≡ image_bytes) where
   turn : (l : List ℕ) (i : ℕ) → i < max_numbers → sets (set l i (get_or b (since_at + i) 0)) (i + 1) (rest b (i + 1)) ≡ sets l i (rest b i)
@@ -36,4 +33,6 @@ pub loop-i-preserved : goal.loop-i-preserved
 loop-i-preserved c = (search rules, turn c.args.image.now c.requires c.loop-i.rounds c.loop-i.i c.loop-i-test.true ∙ c.loop-i.invariant.1)
 
 pub returns : goal.returns
-returns c = rw (done c.args.image.now c.requires c.loop-i.i (omega (arith, c.loop-i.invariant.0, c.loop-i-test.false))) at c.loop-i.invariant.1 ∙ all c.args.image.now c.requires
+returns c =
+    let b = c.args.image.now in
+    rw (done b c.requires c.loop-i.i (omega (arith, c.loop-i.invariant.0, c.loop-i-test.false))) at c.loop-i.invariant.1 ∙ all b c.requires

@@ -9,7 +9,7 @@ use Rattle.controller_c.specs.Image.{since_at, reserved_at}
 use Rattle.controller_c.proofs.image.take_rounds.Given as goal
 
 -- what is left to read at turn i
-abbrev rest : List ℕ → ℕ → List ℕ
+abbrev pub rest : List ℕ → ℕ → List ℕ
 rest b i = slice (since_at + i) reserved_at b
 
 abbrev pub invariant-loop-i : goal.invariant-loop-i

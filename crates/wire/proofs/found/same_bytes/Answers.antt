@@ -7,11 +7,8 @@ use Rattle.std.proofs.Common.{sym, arith, drop-drop}
 use Rattle.std.proofs.Math.Seq.{drop-length}
 use Rattle.wire.specs.Found.{same_bytes}
 use Rattle.wire.specs.Laws.Found.{same_split, same_as_long}
+use Rattle.wire.proofs.found.same_bytes.Invariants.{SameFrom}
 use Rattle.wire.proofs.found.same_bytes.Goals as goal
-
--- as long as each other, and the same from a place on
-abbrev SameFrom : List ℕ → List ℕ → ℕ → Type 0
-SameFrom a b end = (end ≤ length a) × (length a ≡ length b) × (same_bytes (drop end a) (drop end b) ≡ true)
 
 module _ (a b : List ℕ) where
   -- nothing stands behind the end
@@ -40,10 +37,6 @@ module _ (a b : List ℕ) where
   front : (end : ℕ) (r : Bool) → SameFrom a b end → r ≡ same_bytes (take end a) (take end b) → r ≡ same_bytes a b
   front end r behind e = e ∙ sym (same_split end a b ∙ rw behind.2 (and_comm (same_bytes (take end a) (take end b)) true))
 
--- the two parts, as seen from a turn of each loop
-abbrev Parts : Type 0
-Parts = List ℕ × List ℕ
-
 pub returns-then-end-b : goal.returns-then-end-b
 returns-then-end-b c = sym (same_as_long c.args.a.now c.args.b.now c.if-end-b.true)
 
@@ -51,38 +44,32 @@ pub loop-end-init : goal.loop-end-init
 loop-end-init c = at_end c.args.a.now c.args.b.now c.if-end-b.false
 
 pub same_span-requires : goal.same_span-requires
-same_span-requires c = let p = (let it : Parts = (c.args.a.now, c.args.b.now) in it) in inside p.0 p.1 _ 64 c.loop-end-test.true c.loop-end.invariant
+same_span-requires c = inside c.args.a.now c.args.b.now _ 64 c.loop-end-test.true c.loop-end.invariant
 
 pub returns-then-not-same_span : goal.returns-then-not-same_span
 returns-then-not-same_span c =
-    let p = (let it : Parts = (c.args.a.now, c.args.b.now) in it) in
-    differs p.0 p.1 _ 64 c.loop-end-test.true c.loop-end.invariant _ c.same_span.ensures c.if-not-same_span.true
+    differs c.args.a.now c.args.b.now _ 64 c.loop-end-test.true c.loop-end.invariant _ c.same_span.ensures c.if-not-same_span.true
 
 pub loop-end-preserved : goal.loop-end-preserved
 loop-end-preserved c =
-    let p = (let it : Parts = (c.args.a.now, c.args.b.now) in it) in
-    same p.0 p.1 _ 64 c.loop-end-test.true c.loop-end.invariant _ c.same_span.ensures c.if-not-same_span.false
+    same c.args.a.now c.args.b.now _ 64 c.loop-end-test.true c.loop-end.invariant _ c.same_span.ensures c.if-not-same_span.false
 
 pub loop-end-2-init : goal.loop-end-2-init
 loop-end-2-init c = c.loop-end.invariant
 
 pub same_span-requires-in-loop-end-2 : goal.same_span-requires-in-loop-end-2
-same_span-requires-in-loop-end-2 c = let p = (let it : Parts = (let it : Parts = (c.args.a.now, c.args.b.now) in it) in it) in inside p.0 p.1 _ 8 c.loop-end-2-test.true c.loop-end-2.invariant
+same_span-requires-in-loop-end-2 c = inside c.args.a.now c.args.b.now _ 8 c.loop-end-2-test.true c.loop-end-2.invariant
 
 pub returns-then-not-same_span-2 : goal.returns-then-not-same_span-2
 returns-then-not-same_span-2 c =
-    let p = (let it : Parts = (let it : Parts = (c.args.a.now, c.args.b.now) in it) in it) in
-    differs p.0 p.1 _ 8 c.loop-end-2-test.true c.loop-end-2.invariant _ c.same_span-in-loop-end-2.ensures c.if-not-same_span-2.true
+    differs c.args.a.now c.args.b.now _ 8 c.loop-end-2-test.true c.loop-end-2.invariant _ c.same_span-in-loop-end-2.ensures c.if-not-same_span-2.true
 
 pub loop-end-2-preserved : goal.loop-end-2-preserved
 loop-end-2-preserved c =
-    let p = (let it : Parts = (let it : Parts = (c.args.a.now, c.args.b.now) in it) in it) in
-    same p.0 p.1 _ 8 c.loop-end-2-test.true c.loop-end-2.invariant _ c.same_span-in-loop-end-2.ensures c.if-not-same_span-2.false
+    same c.args.a.now c.args.b.now _ 8 c.loop-end-2-test.true c.loop-end-2.invariant _ c.same_span-in-loop-end-2.ensures c.if-not-same_span-2.false
 
 pub same_span-requires-2 : goal.same_span-requires-2
-same_span-requires-2 c = (omega (arith, c.loop-end-2.invariant.0), omega (arith, c.loop-end-2.invariant.0, c.loop-end-2.invariant.1))
+same_span-requires-2 c = let v = c.loop-end-2 in (omega (arith, v.invariant.0), omega (arith, v.invariant.0, v.invariant.1))
 
 pub returns : goal.returns
-returns c =
-    let p = (let it : Parts = (let it : Parts = (c.args.a.now, c.args.b.now) in it) in it) in
-    front p.0 p.1 c.loop-end-2.end _ c.loop-end-2.invariant c.same_span-2.ensures
+returns c = front c.args.a.now c.args.b.now c.loop-end-2.end _ c.loop-end-2.invariant c.same_span-2.ensures

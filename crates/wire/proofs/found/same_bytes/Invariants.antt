@@ -6,7 +6,7 @@ use Rattle.wire.specs.Found.{same_bytes}
 use Rattle.wire.proofs.found.same_bytes.Given as goal
 
 -- as long as each other, and the same from a place on
-abbrev SameFrom : List ℕ → List ℕ → ℕ → Type 0
+abbrev pub SameFrom : List ℕ → List ℕ → ℕ → Type 0
 SameFrom a b end = (end ≤ length a) × (length a ≡ length b) × (same_bytes (drop end a) (drop end b) ≡ true)
 
 abbrev pub invariant-loop-end : goal.invariant-loop-end
