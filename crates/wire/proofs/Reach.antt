@@ -1,11 +1,6 @@
 -- How the two tests before a read of w bytes at a place, made so that no sum wraps, tell whether n bytes reach behind them.
-use Prim.Native.Nat.{ℕ, ◌+◌, ◌-◌, ◌≤◌, ◌<◌}
-use mathlib.Core.Bool.{true, false}
-use mathlib.Core.Logic.{◌⊎◌, inl, inr}
-use mathlib.Core.Path.{◌≡◌}
-use native.Mathlib.Omega.{arith}
-use borrow.Author.Tests.{le-leb, lt-leb}
-use lib.Dec.{leb}
+use Rattle.std.proofs.Common.{ℕ, ◌+◌, ◌-◌, ◌≤◌, ◌<◌, true, false, ◌⊎◌, inl, inr, ◌≡◌, arith, le-leb, leb}
+use Rattle.std.proofs.lemmas.Bool.{lt-leb}
 
 module _ (n at w : ℕ) where
   pub there : w ≤ n → at ≤ n - w → leb (at + w) n ≡ true

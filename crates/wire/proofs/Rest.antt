@@ -3,13 +3,9 @@
 --     rest_next      the first of them, and the rest
 --     rest_pair, rest_last      what the first two say, and the only one
 --     rest_done, rest_whole     none are left after the last turn, all are before the first
-use Prim.Native.Nat.{ℕ, ◌≤◌, ◌<◌, ◌-◌, ◌+◌, ◌*◌}
-use mathlib.Core.Bool.{◌&&◌, and_assoc, and-true}
-use mathlib.Core.List.{List, [], ◌∷◌}
-use mathlib.Core.Path.{◌≡◌, sym, ◌∙◌}
+use Rattle.std.proofs.Common.{ℕ, ◌≤◌, ◌<◌, ◌-◌, ◌+◌, ◌*◌, ◌&&◌, List, [], ◌∷◌, ◌≡◌, sym, ◌∙◌, arith, ltb}
+use mathlib.Core.Bool.{and_assoc, and-true}
 use native.Mathlib.Nat.{sub-zero}
-use native.Mathlib.Omega.{arith}
-use lib.Dec.{ltb}
 use Rattle.wire.specs.Laws.Words.{words_step}
 use Rattle.wire.specs.Limits.{frame_header, number_width}
 use Rattle.wire.specs.Numbers.{rising}

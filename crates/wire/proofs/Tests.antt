@@ -2,11 +2,8 @@
 --     tests         the laws that give a test its value from the branch that was taken, as one set for `search`
 --     leb_same      two tests of an order are equal if each order goes with the other
 --     both_made, one_made      what a chain `a && b` comes to: with b where a was passed, with a alone where it was not
-use Prim.Native.Nat.{ℕ, ◌≤◌, ◌<◌}
-use mathlib.Core.Bool.{Bool, true, false, ◌&&◌}
-use mathlib.Core.Path.{◌≡◌, refl, sym, ◌∙◌}
-use borrow.Author.Tests.{lt-ltb, le-ltb, le-leb, lt-leb, eq-eqb, ne_eqb, leb-true, leb-false}
-use lib.Dec.{leb}
+use Rattle.std.proofs.Common.{ℕ, ◌≤◌, ◌<◌, Bool, true, false, ◌&&◌, ◌≡◌, refl, sym, ◌∙◌, lt-ltb, le-ltb, le-leb, eq-eqb, ne_eqb, leb-true, leb-false, leb}
+use Rattle.std.proofs.lemmas.Bool.{lt-leb}
 
 pub ruleset tests = (lt-ltb, le-ltb, le-leb, lt-leb, eq-eqb, ne_eqb)
 

@@ -1,10 +1,8 @@
 -- Laws of damage: other bytes, as many, in the place of one entry's frame leave a well packed tray well packed, and every other entry as it was.
-use Rattle.std.specs.Prelude.{ℕ, zero, suc, ◌+◌, ◌-◌, ◌≤◌, ◌<◌, true, ◌⊎◌, ◌≢◌, ◌≡◌, refl, length, get_or, set}
-use mathlib.Core.List.{List, [], ◌∷◌, ◌++◌, append_assoc, Memᴰ}
-use Rattle.std.proofs.Common.{inl, inr, sym, ap, ◌∙◌, length-set, length-take-le, take_at, get_or-set_same, get_or-set_other, ext_get_or}
-use borrow.Author.Tests.{le-leb, ne_eqb}
+use Rattle.std.specs.Prelude.{ℕ, zero, suc, ◌+◌, ◌-◌, ◌≤◌, ◌<◌, true, ◌⊎◌, ◌≢◌, ◌≡◌, refl, length, get_or, set, List, [], ◌∷◌, ◌++◌}
+use mathlib.Core.List.{Memᴰ}
+use Rattle.std.proofs.Common.{inl, inr, sym, ap, ◌∙◌, length-set, length-take-le, take_at, get_or-set_same, get_or-set_other, ext_get_or, append_assoc, le-leb, ne_eqb, arith}
 use Rattle.std.proofs.Math.Decide.{ℕ_discrete, dec_lt}
-use native.Mathlib.Omega.{arith}
 use Rattle.std.proofs.Math.ListN.{take, drop, length-append, length-drop, get_or-append}
 use Rattle.std.proofs.Math.Seq.{drop_at, get_or-append-add, get_or-take, get_or-drop}
 use Rattle.wire.specs.Limits.{entries_at, zero_at, offset_at, length_at}

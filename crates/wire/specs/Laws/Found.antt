@@ -1,9 +1,9 @@
 -- Laws of what is found under a number: the answer tells what there is, and the order of entries does not matter.
-use Rattle.std.specs.Prelude.{ℕ, zero, suc, ◌+◌, ◌<◌, Bool, true, false, cond, ◌&&◌, ◌⊎◌, ◌≢◌, ◌≡◌, refl, eqb, length, get_or, take, drop}
+use Rattle.std.specs.Prelude.{ℕ, zero, suc, ◌+◌, ◌<◌, Bool, true, false, cond, ◌&&◌, ◌⊎◌, ◌≢◌, ◌≡◌, refl, eqb, length, get_or, take, drop, List, [], ◌∷◌, map}
 use Rattle.std.proofs.Math.Bool.{and-eq-true_iff, and_assoc, and_comm}
 use Rattle.std.proofs.Common.{true≢false, inl, inr, sym, subst, ap, ap₂, ◌∙◌, eqb-true, eq-eqb, ne_eqb, arith}
 use mathlib.Core.List.Memᴰ
-use mathlib.Core.List.{List, [], ◌∷◌, map, Memᴰ, Permᴰ}
+use mathlib.Core.List.{Memᴰ, Permᴰ}
 use Rattle.std.proofs.Math.Decide.{ℕ_discrete}
 use Rattle.wire.specs.Tray.{Entry, entry_count, offset_of, length_of, sender, part, entries_from, entries}
 use Rattle.wire.specs.Found.{frames_under, same_bytes, all_same, Under, nothing, one, several, among_frames, under, first_from, answer, found, meaning}

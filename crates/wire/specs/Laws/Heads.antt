@@ -1,14 +1,13 @@
 -- Laws of headers as numbers: a frame that lists nothing says a bit exactly if its eight bytes are the header with that bit.
 --     short_says     what the eight bytes from a place of a tray on say
 --     long_void      bytes of another length are void
+use Rattle.std.proofs.lemmas.Bool.{lt-leb}
 use Rattle.std.specs.Prelude.{ℕ, ◌+◌, ◌*◌, ◌≤◌, ◌<◌, Bool, cond, List, [], ◌≢◌, ◌≡◌, length, drop}
 use Rattle.std.proofs.Math.Bool.{true, false}
 use Rattle.std.proofs.Math.Option.{Option, some, none}
 use Rattle.std.proofs.Math.Path.{refl, ap}
-use Rattle.std.proofs.Common.{sym, ◌∙◌, add-zero, add_assoc, length-take, length-drop, get_or-take, get_or-drop}
+use Rattle.std.proofs.Common.{sym, ◌∙◌, add-zero, add_assoc, length-take, length-drop, get_or-take, get_or-drop, arith, eq-eqb, ne_eqb, le-leb, leb-true}
 use Rattle.std.proofs.Math.Decide.{ℕ_discrete}
-use native.Mathlib.Omega.{arith}
-use borrow.Author.Tests.{eq-eqb, ne_eqb, le-leb, lt-leb, leb-true}
 use Rattle.std.proofs.Math.Dec.{leb, eqb}
 use Rattle.std.proofs.Math.ListN.{get_or, take}
 use Rattle.wire.specs.Limits.{frame_header, bit_at, count_at}

@@ -1,7 +1,7 @@
 -- Runs of stores, as `lib.Seq.sets` has them: two that follow each other are one.
+use Rattle.std.proofs.lemmas.List.Edits.{sets}
 use Rattle.std.specs.Prelude.{ℕ, suc, ◌+◌, List, [], ◌∷◌, ◌++◌, ◌≡◌, length, set}
 use Rattle.std.proofs.Common.{add-zero, add-suc, suc-add}
-use lib.Seq.{sets}
 
 pub sets_join : (l : List ℕ) (i : ℕ) (vs ws : List ℕ) → sets (sets l i vs) (i + length vs) ws ≡ sets l i (vs ++ ws)
 sets_join l i [] ws = rw add-zero

@@ -2,8 +2,7 @@
 use Rattle.std.specs.Prelude.{ℕ, zero, suc, ◌+◌, ◌*◌, ◌-◌, ◌/◌, ◌≤◌, ◌<◌, Bool, true, false, cond, ◌&&◌, List, [], ◌≡◌, refl, leb, eqb, length, get_or, take, drop}
 use Rattle.std.proofs.Math.Bool.{and-eq-true_iff}
 use Rattle.std.proofs.Math.Path.{ap}
-use Rattle.std.proofs.Common.{subst, ◌∙◌, ⊎_elim, leb-true, eqb-true, le-leb, lt-ltb, eq-or-lt_of_le, length-take, length-drop, get_or-take, get_or-drop, length-take-le}
-use native.Mathlib.Omega.{arith}
+use Rattle.std.proofs.Common.{subst, ◌∙◌, ⊎_elim, leb-true, eqb-true, le-leb, lt-ltb, eq-or-lt_of_le, length-take, length-drop, get_or-take, get_or-drop, length-take-le, arith}
 use Rattle.wire.specs.Limits.{tray_header, entries_at, entry_width, offset_at, zero_at, max_tray, max_entries}
 use Rattle.wire.specs.Laws.Words.{half_below}
 use Rattle.wire.specs.Words.{Below, half_at, word_at}

@@ -1,5 +1,5 @@
 -- `wire::found::found_by` meets its contract: the branch gives each test of `found_by` its value.
-use borrow.Author.Tests.{eq-eqb, ne_eqb}
+use Rattle.std.proofs.Common.{eq-eqb, ne_eqb}
 use Rattle.wire.proofs.found.found_by.Goals as goal
 
 pub returns-then-note-eq-NO_FRAME : goal.returns-then-note-eq-NO_FRAME

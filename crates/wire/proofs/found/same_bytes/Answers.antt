@@ -1,9 +1,8 @@
 -- `wire::found::same_bytes` meets its contract: in both loops the bytes from `end` on are the same, and a block that differs decides.
-use Prim.Native.Nat.{ℕ, ◌+◌, ◌-◌, ◌≤◌}
 use Rattle.std.specs.Prelude.{Bool, true, false, List, length, take, drop}
 use Rattle.std.proofs.Math.Bool.{and_comm}
 use Rattle.std.proofs.Math.Path.{◌≡◌, ◌∙◌}
-use Rattle.std.proofs.Common.{sym, arith, drop-drop}
+use Rattle.std.proofs.Common.{sym, arith, drop-drop, ℕ, ◌+◌, ◌-◌, ◌≤◌}
 use Rattle.std.proofs.Math.Seq.{drop-length}
 use Rattle.wire.specs.Found.{same_bytes}
 use Rattle.wire.specs.Laws.Found.{same_split, same_as_long}

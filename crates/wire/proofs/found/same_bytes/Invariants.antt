@@ -1,5 +1,5 @@
 -- `wire::found::same_bytes` meets its contract: in both loops the bytes from `end` on are the same, and a block that differs decides.
-use Prim.Native.Nat.{ℕ, ◌≤◌}
+use Rattle.std.proofs.Common.{ℕ, ◌≤◌}
 use Rattle.std.specs.Prelude.{true, List, length, drop}
 use Rattle.std.proofs.Math.Path.{◌≡◌}
 use Rattle.wire.specs.Found.{same_bytes}

@@ -1,11 +1,9 @@
 -- `wire::found::same_frames` meets its contract: both notes have a place, or the answer is no; then the lengths decide, and the bytes.
-use Prim.Native.Nat.{ℕ, ◌+◌, ◌-◌, ◌≤◌, ◌<◌}
+use Rattle.std.proofs.lemmas.Bool.{lt-leb}
 use Rattle.std.specs.Prelude.{Bool, true, false, List, refl, leb, length, take, drop}
 use Rattle.std.proofs.Math.Bool.{◌&&◌}
 use Rattle.std.proofs.Math.Path.{◌≡◌, ◌∙◌}
-use Rattle.std.proofs.Common.{sym}
-use native.Mathlib.Omega.{arith}
-use borrow.Author.Tests.{le-leb, lt-leb}
+use Rattle.std.proofs.Common.{sym, ℕ, ◌+◌, ◌-◌, ◌≤◌, ◌<◌, arith, le-leb}
 use Rattle.wire.specs.Found.{same_bytes}
 use Rattle.wire.specs.Notes.{found_by, same_at, same_frames}
 use Rattle.wire.specs.Tray.{part}

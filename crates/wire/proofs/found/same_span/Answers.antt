@@ -1,9 +1,8 @@
 -- `wire::found::same_span` meets its contract: after each turn the test is that of the bytes passed.
-use Prim.Native.Nat.{ℕ, ◌+◌, ◌<◌}
 use Rattle.std.specs.Prelude.{Bool, List, refl, eqb, length, take, drop}
 use Rattle.std.proofs.Math.Bool.{◌&&◌}
 use Rattle.std.proofs.Math.Path.{◌≡◌}
-use Rattle.std.proofs.Common.{sym, arith, rules, length-drop}
+use Rattle.std.proofs.Common.{sym, arith, rules, length-drop, ℕ, ◌+◌, ◌<◌}
 use Rattle.std.proofs.Math.ListN.{get_or}
 use Rattle.std.proofs.Math.Seq.{get_or-drop}
 use Rattle.wire.specs.Found.{same_bytes}

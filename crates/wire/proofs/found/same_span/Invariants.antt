@@ -1,5 +1,5 @@
 -- `wire::found::same_span` meets its contract: after each turn the test is that of the bytes passed.
-use Prim.Native.Nat.{◌-◌, ◌≤◌}
+use Rattle.std.proofs.Common.{◌-◌, ◌≤◌}
 use Rattle.std.specs.Prelude.{take, drop}
 use Rattle.std.proofs.Math.Path.{◌≡◌}
 use Rattle.wire.specs.Found.{same_bytes}

@@ -1,5 +1,5 @@
 -- `wire::frame::rise` meets its contract: the numbers passed rose and what is left rises from above the last of them exactly if the whole list rises.
-use Prim.Native.Nat.{◌≤◌, ◌-◌}
+use Rattle.std.proofs.Common.{◌≤◌, ◌-◌}
 use Rattle.std.proofs.Math.Bool.{◌&&◌}
 use Rattle.std.proofs.Math.Path.{◌≡◌}
 use Rattle.std.specs.Prelude.{length, drop}

@@ -1,5 +1,5 @@
 -- `wire::read::numbers_rise` meets its contract: what is left to read rises from the last number exactly if the whole list does from 0.
-use Prim.Native.Nat.{◌-◌, ◌≤◌}
+use Rattle.std.proofs.Common.{◌-◌, ◌≤◌}
 use Rattle.std.proofs.Math.Path.{◌≡◌}
 use Rattle.wire.specs.Numbers.{rising}
 use Rattle.wire.proofs.Rest.{rest}

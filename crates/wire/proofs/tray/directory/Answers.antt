@@ -1,6 +1,5 @@
 -- `wire::tray::directory` meets its contract: a count is below 2 ^ 16, so the directory's length does not wrap, and the rest is a part of the tray.
-use Prim.Native.Nat.{ℕ, ◌*◌}
-use Rattle.std.proofs.Common.{ap, arith}
+use Rattle.std.proofs.Common.{ap, arith, ℕ, ◌*◌}
 use Rattle.std.proofs.Math.Path.{◌∙◌}
 use Rattle.wire.specs.Laws.Tray.{entry_count_below}
 use Rattle.wire.specs.Limits.{tray_header, entry_width}

@@ -1,10 +1,8 @@
 -- `wire::tray::frames_follow` meets its contract: the frames that are left follow each other exactly if all do. An offset is below 2 ^ 16, so no end wraps.
-use Prim.Native.Nat.{ℕ, ◌+◌, ◌-◌, ◌≤◌, ◌<◌}
 use Rattle.std.specs.Prelude.{false, List, eqb, length}
 use Rattle.std.proofs.Math.Path.{◌≡◌, ◌∙◌}
-use Rattle.std.proofs.Common.{sym, arith, rules}
+use Rattle.std.proofs.Common.{sym, arith, rules, ℕ, ◌+◌, ◌-◌, ◌≤◌, ◌<◌, eq-eqb, ne_eqb}
 use Rattle.std.proofs.Math.Nat.{sub-zero}
-use borrow.Author.Tests.{eq-eqb, ne_eqb}
 use Rattle.wire.specs.Laws.Tray.{chained_step}
 use Rattle.wire.specs.Tray.{offset_of, length_of, chained}
 use Rattle.wire.proofs.tray.frames_follow.Goals as goal

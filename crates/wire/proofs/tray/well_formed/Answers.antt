@@ -1,8 +1,7 @@
 -- `wire::tray::well_formed` meets its contract: the tests of the header, of the directory's room and of the frames are those of `well_formed`.
-use Prim.Native.Nat.{ℕ, ◌≤◌}
 use Rattle.std.specs.Prelude.{Bool, true, List, leb, eqb, length}
 use Rattle.std.proofs.Math.Bool.{◌&&◌, and_assoc, and-eq-true_iff}
-use Rattle.std.proofs.Common.{sym, ap, leb-true}
+use Rattle.std.proofs.Common.{sym, ap, leb-true, ℕ, ◌≤◌}
 use Rattle.std.proofs.Math.Path.{◌≡◌, ◌∙◌}
 use Rattle.wire.specs.Limits.{tray_header, zero_at, max_tray, max_entries}
 use Rattle.wire.specs.Tray.{well_formed, entry_count, entry_at, chained}

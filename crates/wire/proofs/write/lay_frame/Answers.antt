@@ -1,10 +1,8 @@
 -- `wire::write::lay_frame` meets its contract: the header's stores and the numbers' stores are the frame's bytes in front of what stood behind them, and
 -- where there is no room, or too many numbers, nothing is stored.
-use Prim.Native.Nat.{ℕ, ◌+◌, ◌*◌, ◌≤◌, ◌<◌}
 use Rattle.std.proofs.Math.Bool.{and-false}
-use mathlib.Core.List.{List, ◌++◌}
 use Rattle.std.proofs.Math.Path.{◌≡◌, ◌∙◌}
-use Rattle.std.proofs.Common.{sym, arith, le-leb}
+use Rattle.std.proofs.Common.{sym, arith, le-leb, ℕ, ◌+◌, ◌*◌, ◌≤◌, ◌<◌, List, ◌++◌}
 use Rattle.std.proofs.Math.Nat.{zero-add}
 use Rattle.std.proofs.lemmas.Bool.{lt-leb}
 use Rattle.std.specs.Prelude.{leb, length, drop}

@@ -1,8 +1,6 @@
 -- `wire::write::put_numbers` meets its contract: what is left to store, stored behind what was stored, gives the whole run of stores.
-use Prim.Native.Nat.{ℕ, ◌<◌, ◌+◌, ◌*◌}
-use mathlib.Core.List.{List, [], ◌∷◌}
 use Rattle.std.proofs.Math.Path.{◌≡◌, ◌∙◌}
-use Rattle.std.proofs.Common.{add-one, arith, rules, drop-cons}
+use Rattle.std.proofs.Common.{add-one, arith, rules, drop-cons, ℕ, ◌<◌, ◌+◌, ◌*◌, List, [], ◌∷◌}
 use Rattle.std.specs.Prelude.{length, drop}
 use Rattle.std.proofs.Math.ListN.{get_or, drop_of_length-le}
 use Rattle.std.proofs.lemmas.List.Edits.{sets}
