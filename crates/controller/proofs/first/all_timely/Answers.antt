@@ -1,13 +1,12 @@
 -- `controller::first::all_timely` meets its contract: the latest of those passed and those that are left are timely exactly if all are.
-use Prim.Native.Nat.{ℕ, ◌+◌, ◌-◌, ◌≤◌, ◌<◌}
+use Prim.Native.Nat.{ℕ, ◌+◌, ◌≤◌, ◌<◌}
 use Rattle.std.specs.Prelude.{Bool, refl, leb, length, drop}
 use Rattle.std.proofs.Math.Bool.{◌&&◌, and_assoc, and-true}
 use mathlib.Core.List.{List, ◌∷◌}
 use Rattle.std.proofs.Math.Path.{◌≡◌, ◌∙◌}
-use Rattle.std.proofs.Common.{sym, ap, add-one, rules, drop-cons}
+use Rattle.std.proofs.Common.{sym, ap, add-one, arith, drop-cons}
 use Rattle.std.proofs.Math.Dec.{leb-suc-suc}
 use Rattle.std.proofs.Math.ListN.{get_or, drop_of_length-le}
-use Rattle.wire.specs.Limits.{max_numbers}
 use Rattle.controller.specs.Work.First.{timely}
 use Rattle.controller.proofs.first.all_timely.Goals as goal
 
@@ -23,12 +22,18 @@ module _ (ok : Bool) (s : List ℕ) (i : ℕ) where
   done h = rw (drop_of_length-le s {i = i} h) (and-true ok)
 
 pub loop-i-init : goal.loop-i-init
-loop-i-init c = (search rules, refl)
+loop-i-init c = record { inside = omega arith; left = refl }
 
 pub loop-i-preserved : goal.loop-i-preserved
 loop-i-preserved c =
-    let later : leb c.later-last.result 194 ≡ (leb c.loop-i.last 194 && leb (get_or c.args.rounds.now c.loop-i.i 0) 194) = c.later-last.ensures 194 in
-    (search rules, ap (λ (t : Bool). t && timely (drop (c.loop-i.i + 1) c.args.rounds.now)) later ∙ turn (leb c.loop-i.last 194) c.args.rounds.now c.loop-i.i (search rules) ∙ c.loop-i.invariant.1)
+    let last = c.loop-i.last in
+    let rounds = c.args.rounds.now in
+    let i = c.loop-i.i in
+    let later : leb c.later-last.result 194 ≡ (leb last 194 && leb (get_or rounds i 0) 194) = c.later-last.ensures 194 in
+    record {
+      inside = omega arith;
+      left = ap (λ (t : Bool). t && timely (drop (i + 1) rounds)) later ∙ turn (leb last 194) rounds i (omega arith) ∙ c.loop-i.invariant.left;
+    }
 
 pub returns : goal.returns
-returns c = sym (done (leb c.loop-i.last 194) c.args.rounds.now c.loop-i.i (search rules)) ∙ c.loop-i.invariant.1
+returns c = sym (done (leb c.loop-i.last 194) c.args.rounds.now c.loop-i.i (omega arith)) ∙ c.loop-i.invariant.left

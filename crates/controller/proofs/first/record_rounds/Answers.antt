@@ -1,8 +1,8 @@
 -- `controller::first::record_rounds` meets its contract: after j turns the record is the old one, moved to beside the first j numbers.
-use Prim.Native.Nat.{ℕ, ◌+◌, ◌-◌, ◌≤◌, ◌<◌}
+use Prim.Native.Nat.{ℕ, ◌+◌, ◌≤◌, ◌<◌}
 use Rattle.std.specs.Prelude.{true, cond, refl, length, set, take, drop}
 use mathlib.Core.List.{List, [], ◌∷◌, ◌++◌, map}
-use Rattle.std.proofs.Common.{inl, inr, sym, ap, add-one, arith, rules, length-set, take-suc, length-take-le}
+use Rattle.std.proofs.Common.{sym, ap, add-one, arith, length-set, take-suc, length-take-le}
 use Rattle.std.proofs.Math.Path.{◌≡◌, ◌∙◌}
 use Rattle.std.proofs.Math.ListN.{get_or}
 use Rattle.wire.specs.Limits.{max_numbers}
@@ -16,6 +16,7 @@ use Rattle.controller.specs.Laws.Work.Ready.{list_place}
 use Rattle.controller.specs.Work.First.{moved_to}
 use Rattle.controller.specs.Work.Lists.{in_places, below, absent, found_in}
 use Rattle.controller.proofs.first.record_rounds.Goals as goal
+use Rattle.controller.proofs.first.record_rounds.Goals.{then-found-lt-ABSENT, else-found-lt-ABSENT}
 
 -- the round of x, where w is the record beside l and t the tray's round
 abbrev round_of : List ℕ → List ℕ → ℕ → ℕ → ℕ
@@ -61,32 +62,35 @@ module _ (n : Numbers) (sound : sound_list n ≡ true) (x r : ℕ) (found : r �
   new_round w t h = rw (found_unknown x r (listed n) short found h)
 
 pub loop-j-init : goal.loop-j-init
-loop-j-init c = (search rules, search rules, refl)
+loop-j-init c = record { inside = omega arith; places = omega arith; moved = refl }
 
 pub bounds-old-found : goal.bounds-old-found
 bounds-old-found c =
-    let n = in_places c.args.len c.args.heard.now in
-    omega (arith, place_small n c.requires.0 _ _ c.find_near-found.ensures c.if-found-lt-ABSENT.true, c.loop-j-test.true, c.requires.1)
+    let heard = in_places c.args.len c.args.heard.now in
+    place_small heard c.requires.0 _ _ c.find_near-found.ensures c.if-found-lt-ABSENT.true
 
 pub loop-j-preserved : goal.loop-j-preserved
 loop-j-preserved c =
-    let v = c.loop-j in
-    let start = (c) in
-    let a = start.args in
-    let n = in_places a.len a.heard.now in
-    let w = a.since.now in
-    let round : c.if-found-lt-ABSENT.first ≡ round_of (listed n) w a.round (get_or a.all.now v.j 0) = elim c.if-found-lt-ABSENT.branch [
-      | inl p ↦ p.1 ∙ old_round n start.requires.0 _ _ c.find_near-found.ensures w a.round p.0.true
-      | inr p ↦ p.1 ∙ new_round n start.requires.0 _ _ c.find_near-found.ensures w a.round p.0.left
-    ] in (
-      search rules,
-      simp length-set v.invariant.1,
-      ap (λ (l : List ℕ). set l v.j c.if-found-lt-ABSENT.first) v.invariant.2
-          ∙ ap (set (moved_to (listed n) (take v.j a.all.now) a.round w) v.j) round
-          ∙ turn (listed n) a.all.now w a.round v.j (search rules) (search rules),
-    )
+    let j = c.loop-j.j in
+    let heard = in_places c.args.len c.args.heard.now in
+    let all = c.args.all.now in
+    let w = c.args.since.now in
+    let t = c.args.round in
+    let first = c.if-found-lt-ABSENT.first in
+    let round : first ≡ round_of (listed heard) w t (get_or all j 0) = elim c.if-found-lt-ABSENT.branch [
+      | then-found-lt-ABSENT p ↦ p.first-is ∙ old_round heard c.requires.0 _ _ c.find_near-found.ensures w t p.if-found-lt-ABSENT.true
+      | else-found-lt-ABSENT p ↦ p.first-is ∙ new_round heard c.requires.0 _ _ c.find_near-found.ensures w t p.if-found-lt-ABSENT.false
+    ] in
+    record {
+      inside = omega arith;
+      places = simp length-set c.loop-j.invariant.places;
+      moved =
+          ap (λ (l : List ℕ). set l j first) c.loop-j.invariant.moved
+          ∙ ap (set (moved_to (listed heard) (take j all) t w) j) round
+          ∙ turn (listed heard) all w t j (omega arith) (omega arith);
+    }
 
 pub returns : goal.returns
 returns c =
-    let e : c.loop-j.j ≡ c.args.count = search rules in
-    rw e at c.loop-j.invariant.2
+    let e : c.loop-j.j ≡ c.args.count = omega arith in
+    rw e at c.loop-j.invariant.moved

@@ -8,15 +8,8 @@ use Rattle.std.proofs.Math.ListN.{get_or}
 use Rattle.std.proofs.Math.Seq.{get_or-set_other}
 use Rattle.controller.specs.Work.Heads.{lesser_of}
 use Rattle.controller.specs.Laws.Work.Tree.{Node, node_set, node_made}
+use Rattle.controller.proofs.heads.build.Invariants.{Building}
 use Rattle.controller.proofs.heads.build.Goals as goal
-
--- the nodes from i on are made of the leaves, which are as in the tree t₀
-record Building (t₀ : List ℕ) (m : ℕ) (t : List ℕ) (i : ℕ) : Type 0 where
-  some : 0 < i
-  most : i ≤ m
-  size : length t ≡ length t₀
-  made : (p : ℕ) → i ≤ p → p < m → Node t p
-  leaves : (p : ℕ) → m ≤ p → get_or t p 0 ≡ get_or t₀ p 0
 
 builds : {t₀ : List ℕ} {m : ℕ} {t : List ℕ} {i : ℕ} → Building t₀ m t i → (j v : ℕ) → 2 * m ≤ length t₀ → 1 < i → i - 1 ≡ j
     → v ≡ lesser_of (get_or t (2 * j) 0) (get_or t (2 * j + 1) 0) → Building t₀ m (set t j v) j

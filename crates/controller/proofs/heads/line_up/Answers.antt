@@ -7,12 +7,8 @@ use Rattle.std.proofs.Math.ListN.{get_or}
 use Rattle.controller.specs.Work.Opened.{end_mark, max_lists, open_list}
 use Rattle.controller.specs.Work.Heads.{key_of, Roomy, Stands}
 use Rattle.controller.specs.Laws.Work.Heads.{stands_first, room_set, heads_set}
+use Rattle.controller.proofs.heads.line_up.Invariants.{Lining}
 use Rattle.controller.proofs.heads.line_up.Goals as goal
-
--- the first j lists stand at their first numbers
-record Lining (own b s n : List ℕ) (m : ℕ) (t p i : List ℕ) (j : ℕ) : Type 0 where
-  room : Roomy t p i
-  lined : (k : ℕ) → k < j → Stands (open_list own b s n k) k 0 (get_or t (m + k) 0) (get_or p k 0) (get_or i k 0)
 
 lines : {own b s n : List ℕ} {m : ℕ} {t p i : List ℕ} {j : ℕ} (key next : ℕ) → Lining own b s n m t p i j → j < m → m ≤ max_lists
     → key ≡ key_of j (get_or (open_list own b s n j) 0 end_mark) → next ≡ key_of j (get_or (open_list own b s n j) 1 end_mark)
@@ -23,9 +19,6 @@ lines {own} {b} {s} {n} {j = j} key next g h few e f =
       room = room_set j _ key next 1 g.room;
       lined = λ k l. heads_set (λ r. Stands (open_list own b s n r) r 0) g.room few h first k (λ d. g.lined k (omega arith));
     }
-
-pub loop-j-init : goal.loop-j-init
-loop-j-init c = record { room = c.requires.1; lined = λ k h. absurd (omega arith) }
 
 pub key_at-requires : goal.key_at-requires
 key_at-requires c =
@@ -50,21 +43,7 @@ build-requires c =
     let few = o.few in
     (o.some, omega arith)
 
-pub shape_of-tree : goal.shape_of-tree
-shape_of-tree c =
-    let at = (c) in
-    c.build.auto.tree ∙ at.loop-j.invariant.room.tree ∙ sym at.requires.1.tree
-
-pub shape_of-nexts : goal.shape_of-nexts
-shape_of-nexts c = let at = (c) in at.loop-j.invariant.room.nexts ∙ sym at.requires.1.nexts
-
-pub shape_of-at : goal.shape_of-at
-shape_of-at c = let at = (c) in at.loop-j.invariant.room.places ∙ sym at.requires.1.places
-
 pub returns : goal.returns
 returns c =
-    let at = (c) in
-    let over = c.loop-j-test.false in
-    let m = at.args.len in
     let r = c.build.ensures in
-    (r.0, λ j h. rw (r.1 (m + j) (omega arith)) (at.loop-j.invariant.lined j (omega arith)))
+    (r.0, λ j h. rw (r.1 (c.args.len + j) (omega arith)) (c.loop-j.invariant.lined j (omega arith)))

@@ -1,10 +1,7 @@
 -- `controller::heads::pass` meets its contract: the laws say what moving a list on and making a node anew keep, and that no head is left below the next key.
-use Prim.Native.Nat.{ℕ, ◌+◌, ◌*◌, ◌/◌, ◌%◌}
-use Rattle.std.specs.Prelude.{refl}
-use Rattle.std.proofs.Common.{sym, arith, rules}
-use Rattle.std.proofs.Math.Path.{◌∙◌}
-use Rattle.std.proofs.Math.ListN.{get_or}
-use Rattle.controller.specs.Laws.Work.Heads.{
+use Rattle.std.proofs.Common.{ℕ, ◌+◌, ◌*◌, ◌/◌}
+use Rattle.controller.specs.Laws.Work.Heads.{waiting, Climbing}
+use Rattle.controller.specs.Work.Heads.{slots}
 use Rattle.controller.proofs.heads.pass.Given as goal
 
 abbrev pub invariant-loop-i : goal.invariant-loop-i

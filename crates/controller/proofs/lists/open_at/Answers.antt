@@ -2,9 +2,8 @@
 use Prim.Native.Nat.{ℕ, ◌+◌, ◌-◌, ◌≤◌, ◌<◌}
 use Rattle.std.specs.Prelude.{List, length, set}
 use Rattle.std.proofs.Math.Path.{◌≡◌}
-use Rattle.std.proofs.Common.{arith, rules, length-set}
+use Rattle.std.proofs.Common.{arith, length-set}
 use Rattle.std.proofs.Math.ListN.{get_or}
-use Rattle.wire.specs.Limits.{max_numbers}
 use Rattle.controller.specs.Laws.Work.Lists.{opened_first, opened_step}
 use Rattle.controller.specs.Work.Lists.{opened}
 use Rattle.controller.proofs.lists.open_at.Goals as goal
@@ -16,19 +15,26 @@ turn x n i s at p h k e =
     rw up at (opened_step x n (i - 1) s at (omega arith) k (rw up e))
 
 pub loop-i-init : goal.loop-i-init
-loop-i-init c = (search rules, search rules, search rules, c.requires.0, c.requires.0, opened_first c.args.x c.args.len c.args.at.now (omega (arith, c.requires.2)))
+loop-i-init c = record {
+  behind = omega arith;
+  inside = omega arith;
+  room = omega arith;
+  places = omega arith;
+  kept = omega arith;
+  moved = opened_first c.args.x c.args.len c.args.at.now (omega arith);
+}
 
 pub loop-i-preserved : goal.loop-i-preserved
-loop-i-preserved c = (
-  search rules,
-  search rules,
-  search rules,
-  search rules,
-  simp length-set c.loop-i.invariant.4,
-  turn c.args.x c.args.len c.loop-i.i c.args.at.now c.loop-i.at (search rules) (search rules) (search rules) c.loop-i.invariant.5,
-)
+loop-i-preserved c = record {
+  behind = omega arith;
+  inside = omega arith;
+  room = omega arith;
+  places = omega arith;
+  kept = simp length-set c.loop-i.invariant.kept;
+  moved = turn c.args.x c.args.len c.loop-i.i c.args.at.now c.loop-i.at (omega arith) (omega arith) (omega arith) c.loop-i.invariant.moved;
+}
 
 pub returns : goal.returns
 returns c =
-    let e : c.loop-i.i ≡ c.args.to = search rules in
-    rw e at c.loop-i.invariant.5
+    let e : c.loop-i.i ≡ c.args.to = omega arith in
+    rw e at c.loop-i.invariant.moved

@@ -1,5 +1,5 @@
 -- `controller::lists::stands_before` meets its contract.
-use Rattle.std.proofs.Common.{true≢false, sym, rules, eqb-true, le-ltb}
+use Rattle.std.proofs.Common.{true≢false, sym, eqb-true, le-ltb}
 use Rattle.std.proofs.Math.Path.{◌∙◌}
 use Rattle.controller.proofs.lists.stands_before.Goals as goal
 

@@ -82,11 +82,6 @@ module _ (b : List ℕ) (k t : ℕ) (word : k < 4294967296) where
       }
 
 pub returns-in-At : goal.returns-in-At
-returns-in-At c = found _ _ _ c.ranges.note.fits _ _ _ _ (let it : found_by c.args.note ≡ At c.found.given.0.0 c.found.given.0.1.0 = sym c.found_by-found.ensures ∙ c.found.given.1 in it) c.part_of.ensures c.list_count.ensures
-
-pub returns-in_default : goal.returns-in_default
-returns-in_default c =
-    let a = c.args in
-    let none = no_span a.tray.now in
-    no_place (λ f. SpanOf a.tray.now (list_in (read_in a.round (meaning a.tray.now f))) 0 0) none none (found_by a.note)
-    (rw c.found_by-found.ensures at c.in_default.keys2)
+returns-in-At c =
+    let at = sym c.found_by-found.ensures ∙ c.in-At.is in
+    found _ _ _ c.ranges.note.fits _ _ _ _ at c.part_of.ensures c.list_count.ensures

@@ -30,14 +30,6 @@ module _ (own b : List ℕ) (j start count i : ℕ) (lies : Lies own b j start c
   no_number : count ≤ i → end_mark ≡ get_or (list_from own b j start count) i end_mark
   no_number h = sym (get_or-eq_default (list_from own b j start count) end_mark (omega (arith, list_from_length own b j start count lies)))
 
-pub bounds-own-i : goal.bounds-own-i
-bounds-own-i c = omega (arith, c.if-i-count.true, c.requires.mine c.if-j-eq0.true)
-
-pub returns-then-j-eq0 : goal.returns-then-j-eq0
-returns-then-j-eq0 c =
-    let fits = c.shared-slice-known3.given c.args.i in
-    (own_number _ _ _ _ _ _ c.requires c.if-i-count.true c.if-j-eq0.true, omega arith)
-
 pub returns-else-j-eq0 : goal.returns-else-j-eq0
 returns-else-j-eq0 c = (tray_number _ _ _ _ _ _ c.requires _ c.if-i-count.true c.if-j-eq0.false c.read_number.ensures, omega arith)
 

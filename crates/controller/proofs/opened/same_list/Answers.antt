@@ -29,16 +29,5 @@ module _ (b own : List ℕ) (start : ℕ) where
       let low : k < count = omega arith in
       words_at_lem b start count k 0 low ∙ same k (omega arith) ∙ sym (get_or-take count own k 0 low))
 
-pub loop-i-init : goal.loop-i-init
-loop-i-init c = (search rules, λ k h. absurd (omega arith))
-
-pub returns-then-read_number-own : goal.returns-then-read_number-own
-returns-then-read_number-own c = λ e. absurd (false≢true e)
-
-pub loop-i-preserved : goal.loop-i-preserved
-loop-i-preserved c =
-    let inside = c.requires.3 c.loop-i.i c.loop-i-test.true in
-    (search rules, more c.args.tray.now c.args.own.now c.args.start c.loop-i.i _ inside c.read_number.ensures c.if-read_number-own.false c.loop-i.invariant.1)
-
 pub returns : goal.returns
 returns c = λ e. whole c.args.tray.now c.args.own.now c.args.start _ _ c.requires.2 c.loop-i-test.false c.loop-i.invariant.1

@@ -10,20 +10,13 @@ use Rattle.controller.specs.Laws.Work.Own.{agrees_none, agrees_more, agrees_same
 use Rattle.controller.specs.Received.{list_in}
 use Rattle.controller.specs.Work.Opened.{list_under}
 use Rattle.controller.specs.Work.Own.{Agrees}
+use Rattle.controller.proofs.own.count_list.Invariants.{noted}
+use Rattle.controller.proofs.own.count_list.Goals.{then-sent_list, else-sent_list}
 use Rattle.controller.proofs.own.count_list.Goals as goal
 
--- the list that note j is of, and the frame's, in a round
-abbrev noted : List ℕ → List ℕ → List ℕ → ℕ → ℕ → List ℕ
-noted frame tray notes round j = list_under round (list_in (content frame round)) tray (get_or notes j 0)
-
 pub loop-j-init : goal.loop-j-init
-loop-j-init c = (omega arith, omega arith, λ round. agrees_none (noted c.args.frame.now c.args.tray.now c.args.notes.now round) (list_in (content c.args.frame.now round)))
-
-pub bounds-notes-j : goal.bounds-notes-j
-bounds-notes-j c = omega (arith, (let it : c.loop-j.j < max_numbers = omega (arith, c.loop-j-test.true, c.requires) in it))
-
-pub loop-j-smaller : goal.loop-j-smaller
-loop-j-smaller c = omega (arith, c.loop-j-test.true)
+loop-j-init c =
+    (omega arith, omega arith, λ round. agrees_none (noted c.args.frame.now c.args.tray.now c.args.notes.now round) (list_in (content c.args.frame.now round)))
 
 pub loop-j-preserved : goal.loop-j-preserved
 loop-j-preserved c =
@@ -31,15 +24,15 @@ loop-j-preserved c =
     let frame = a.frame.now in
     let lists : ℕ → ℕ → List ℕ = noted frame a.tray.now a.notes.now in
     elim c.if-sent_list.branch [
-      | inl e ↦ (
-        omega (arith, c.loop-j-test.true),
-        omega (arith, e.1, c.loop-j.invariant.1),
-        λ round. rw e.1 (agrees_more (lists round) (list_in (content frame round)) (c.loop-j.invariant.2 round) (c.sent_list.ensures round e.0.true)),
+      | then-sent_list w ↦ (
+        omega arith,
+        omega (arith, w.count-is),
+        λ round. rw w.count-is (agrees_more (lists round) (list_in (content frame round)) (c.loop-j.invariant.2 round) (c.sent_list.ensures round w.if-sent_list.true)),
       )
-      | inr e ↦ (
-        omega (arith, c.loop-j-test.true),
-        omega (arith, e.1, c.loop-j.invariant.1),
-        λ round. rw e.1 (agrees_same (lists round) (list_in (content frame round)) (c.loop-j.invariant.2 round)),
+      | else-sent_list w ↦ (
+        omega arith,
+        omega (arith, w.count-is),
+        λ round. rw w.count-is (agrees_same (lists round) (list_in (content frame round)) (c.loop-j.invariant.2 round)),
       )
     ]
 

@@ -13,7 +13,7 @@ use Rattle.controller.specs.Work.Own.{Agrees}
 use Rattle.controller.proofs.own.count_list.Given as goal
 
 -- the list that note j is of, and the frame's, in a round
-abbrev noted : List ℕ → List ℕ → List ℕ → ℕ → ℕ → List ℕ
+abbrev pub noted : List ℕ → List ℕ → List ℕ → ℕ → ℕ → List ℕ
 noted frame tray notes round j = list_under round (list_in (content frame round)) tray (get_or notes j 0)
 
 abbrev pub invariant-loop-j : goal.invariant-loop-j

@@ -7,9 +7,6 @@ use Rattle.controller.proofs.own.count_own.Goals as goal
 pub write_own-len-requires : goal.write_own-len-requires
 write_own-len-requires c = (c.requires.1, omega arith)
 
-pub count_list-requires : goal.count_list-requires
-count_list-requires c = c.requires.0
-
 pub returns : goal.returns
 returns c =
     let f = c.args.fields in
@@ -18,5 +15,5 @@ returns c =
       agrees =
           λ h d ready.
           let own = c.write_own-len.ensures.own h d ready.sound ready.active in
-          rw (sub-zero c.write_own-len.result, own) c (c.count_list.ensures.agrees f.round);
+          rw (sub-zero c.write_own-len.result, own) at (c.count_list.ensures.agrees f.round);
     }

@@ -21,6 +21,7 @@ use Rattle.wire.specs.Laid.{FrameLays}
 use Rattle.wire.specs.Laws.Frame.{reads_written}
 use Rattle.wire.specs.Laws.Laid.{lays_written, lays_inside}
 use Rattle.wire.specs.Limits.{max_frame}
+use Rattle.controller.proofs.own.write_own.Goals.{then-kind_of-eq-TURN, else-kind_of-eq-TURN}
 use Rattle.controller.proofs.own.write_own.Goals as goal
 
 module _ (f : Fields) (h d e : List ℕ) (sound : sound_rules (state_of f h d e) ≡ true) (active : undecided (view (state_of f h d e)) ≡ true) where
@@ -40,12 +41,13 @@ module _ (f : Fields) (h d e : List ℕ) (sound : sound_rules (state_of f h d e)
 
 pub returns : goal.returns
 returns c =
-    let bit : c.if-kind_of-eq-TURN.bit ≡ cond (eqb (kind_of c.args.fields.round) 5) 2 c.args.fields.said = elim c.if-kind_of-eq-TURN.came [
-      | inl e ↦ rw (eq-eqb _ 5 (sym c.kind_of.ensures ∙ e.0.true)) e.1
-      | inr e ↦ rw (ne_eqb _ 5 (λ q. e.0.left (c.kind_of.ensures ∙ q))) e.1
+    let f = c.args.fields in
+    let bit : c.if-kind_of-eq-TURN.bit ≡ cond (eqb (kind_of f.round) 5) 2 f.said = elim c.if-kind_of-eq-TURN.branch [
+      | then-kind_of-eq-TURN w ↦ rw (eq-eqb _ 5 (sym c.kind_of.ensures ∙ w.if-kind_of-eq-TURN.true)) w.bit-is
+      | else-kind_of-eq-TURN w ↦ rw (ne_eqb _ 5 (λ q. w.if-kind_of-eq-TURN.false (c.kind_of.ensures ∙ q))) w.bit-is
     ] in
+    let lays = c.lay_frame.ensures in
     record {
-      inside = omega (arith, lays_inside _ _ _ _ _ _ c.lay_frame.ensures, c.out.given);
-      own = λ h d sound active.
-          reads c.args.fields h d c.args.own.now sound active _ c.requires.1 _ _ _ _ bit c.sent_count-len.ensures c.lay_frame.ensures;
+      inside = omega (arith, lays_inside _ _ _ _ _ _ lays, c.lay_frame.auto.out);
+      own = λ h d sound active. reads f h d c.args.own.now sound active _ c.requires.1 _ _ _ _ bit c.sent_count-len.ensures lays;
     }

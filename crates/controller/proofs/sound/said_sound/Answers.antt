@@ -1,6 +1,5 @@
 -- `controller::sound::said_sound` meets its contract: the branch gives `sound_said` its case, and the tests there stand in their order.
-use Rattle.std.proofs.Common.{rules}
-use borrow.Author.Tests.{eq-eqb, ne_eqb}
+use Rattle.std.proofs.Common.{eq-eqb, ne_eqb}
 use Rattle.controller.specs.Laws.Work.Sound.{when_or}
 use Rattle.controller.proofs.sound.said_sound.Goals as goal
 

@@ -1,5 +1,5 @@
 -- `controller::sound::zero_place` meets its contract: the test picks the case.
-use borrow.Author.Tests.{eq-eqb, ne_eqb}
+use Rattle.std.proofs.Common.{eq-eqb, ne_eqb}
 use Rattle.controller.proofs.sound.zero_place.Goals as goal
 
 pub returns-then-x-eq0 : goal.returns-then-x-eq0
