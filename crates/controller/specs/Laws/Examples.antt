@@ -1,6 +1,7 @@
 -- The two worked examples come out as document 01 says, by computation.
 use Rattle.std.specs.Prelude.{refl}
-use Rattle.wire.specs.Frame.{kind_of, chosen_by, said_by, bit_fits, max_count, length_fits, round_fits, head_fits, body_fits, read_refusal, content, frame_bytes}
+use Rattle.wire.specs.Frame.{kind_of, chosen_by, said_by, bit_fits, max_count, length_fits, round_fits, head_fits, body_fits, read_refusal, content}
+use Rattle.wire.specs.Frame.{frame_bytes}
 use Rattle.wire.specs.Tray.{round_of, entry_count, sender, well_formed, part, entries}
 use Rattle.controller.specs.Thirds.{third, two_thirds}
 use Rattle.controller.specs.State.{sound_rules, sound_beside, sound}

@@ -1,5 +1,6 @@
 -- Laws of states: what soundness gives, and that a sound state is determined by its view.
-use Rattle.std.specs.Prelude.{ℕ, ◌+◌, ◌-◌, ◌≤◌, ◌<◌, Bool, true, false, not, cond, ◌&&◌, List, [], ◌∷◌, ◌++◌, ◌≢◌, ◌↔◌, ◌≡◌, refl, leb, eqb, length, take, replicate}
+use Rattle.std.specs.Prelude.{ℕ, ◌+◌, ◌-◌, ◌≤◌, ◌<◌, Bool, true, false, not, cond, ◌&&◌, List, [], ◌∷◌, ◌++◌, ◌≢◌, ◌↔◌, ◌≡◌, refl, leb, eqb, length}
+use Rattle.std.specs.Prelude.{take, replicate}
 use Rattle.std.proofs.Common.{true≢false, inl, inr, sym, ap, ◌∙◌, leb-true, eqb-true, le-leb, eq-eqb, ne_eqb, arith, length-append, length-take}
 use Rattle.std.proofs.Math.Bool.{and-eq-true_iff}
 use mathlib.Core.List.Memᴰ
@@ -11,7 +12,8 @@ use Rattle.wire.specs.Numbers.{rising, stored, listed}
 use Rattle.wire.specs.Laws.Numbers.{listed_stored}
 use Rattle.wire.specs.declared.frame.Numbers.{Numbers}
 use Rattle.controller.specs.Lists.{In, mem, Rising}
-use Rattle.controller.specs.State.{View, view, undecided, stored_state, start_view, same, sound_list, is_empty, sound_said, sound_empty, sound_rules, first_fits, alongside, recorded, sound_beside, sound, bit_part, state_from}
+use Rattle.controller.specs.State.{View, view, undecided, stored_state, start_view, same, sound_list, is_empty, sound_said, sound_empty, sound_rules}
+use Rattle.controller.specs.State.{first_fits, alongside, recorded, sound_beside, sound, bit_part, state_from}
 use Rattle.controller.specs.Laws.Lists.{in_mem, mem_in, rising_gives, rising_test}
 use Rattle.controller.specs.declared.state.State.{State}
 

@@ -18,7 +18,8 @@ use Rattle.controller_c.proofs.Promises.{made, promise_handed, image_refused}
 use Rattle.controller_c.proofs.controller_tray.Goals as goal
 
 -- the answer a to the state s in parts, which is the one in the image b
-module _ (s : State) (b t before : List ℕ) (a : Answer) (after : List ℕ) (e : s ≡ taken_apart b) (h : shaped b ≡ true) (p : TrayPromise s t before a after) where
+module _ (s : State) (b t before : List ℕ) (a : Answer) (after : List ℕ) (e : s ≡ taken_apart b) (h : shaped b ≡ true)
+    (p : TrayPromise s t before a after) where
   -- what is promised of it is promised of the state in the image
   joined : TrayPromise (taken_apart b) t before a after
   joined = rw e at p

@@ -37,7 +37,8 @@ unshaped_refusal b t n h = rw h
 pub start_makes : (number bit n : ℕ) → start_refusal number bit n ≡ 0 → sound (stored_state (start_view number bit) start_rounds) ≡ true
 start_makes number bit n e = let a = start_accepted number bit n e in start_stays_sound number bit a.0 a.1
 
-pub tray_makes : (s : State) (t : List ℕ) (n : ℕ) → tray_refusal s t n ≡ 0 → sound (stored_state (next (view s) (entries t)) (rounds_after s (entries t))) ≡ true
+pub tray_makes : (s : State) (t : List ℕ) (n : ℕ) → tray_refusal s t n ≡ 0
+    → sound (stored_state (next (view s) (entries t)) (rounds_after s (entries t))) ≡ true
 tray_makes s t n e = next_stays_sound s t (tray_accepted s t n e).0
 
 -- ---- an image stands for the state in it

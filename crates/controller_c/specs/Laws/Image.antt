@@ -20,7 +20,8 @@ use Rattle.controller.specs.State.{first_rounds, sound_list, sound_rules, sound}
 use Rattle.controller.specs.Laws.State.{ListTests, sound_list_gives, sound_list_test, rules_give, rules_heard, rules_stored}
 use Rattle.controller.specs.Laws.State.{sound_rules_lem, sound_beside_lem, beside_gives, since_places}
 use Rattle.controller.specs.declared.state.State.{State}
-use Rattle.controller_c.specs.Image.{image_bytes, heard_at, candidates_at, echoes_at, since_at, reserved_at, count_bytes, list_width, Sized, head_bytes, list_bytes}
+use Rattle.controller_c.specs.Image.{image_bytes, heard_at, candidates_at, echoes_at, since_at, reserved_at, count_bytes, list_width, Sized}
+use Rattle.controller_c.specs.Image.{head_bytes, list_bytes}
 use Rattle.controller_c.specs.Image.{zeros_from, laid_out, places_at, list_at, rounds_at, taken_apart, zeros, shaped, sound_image}
 use Rattle.controller_c.specs.Words.{number_at, numbers_at}
 use Rattle.controller_c.specs.Laws.Words.{numbers_bytes_length, number_back, numbers_at_lem, numbers_back, number_drop, numbers_drop}

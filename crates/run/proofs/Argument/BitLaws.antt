@@ -69,8 +69,10 @@ module _ (R : Rotation) (K : RotationRules R) (B : BitInstance) (L : BitRules R 
   proposal_one {p} {q} {r} all i j a b = elim (ℕ_discrete (proposal p r) (proposal q r)) [
     | yes e ↦ e
     | no d ↦
-        let same : (s : ℕ) → In s correct → value_from p r s ≡ value_from q r s = λ s k. value_as_sent all i k ∙ sym (value_as_sent all j k) in
-        absurd (two_thirds_apart apart few (values R B p r (proposal p r)) (values R B q r (proposal q r)) (heard_value_lem (all p i)) (heard_value_lem (all q j))
+        let same : (s : ℕ) → In s correct → value_from p r s ≡ value_from q r s =
+        λ s k. value_as_sent all i k ∙ sym (value_as_sent all j k) in
+        absurd (two_thirds_apart apart few (values R B p r (proposal p r)) (values R B q r (proposal q r))
+        (heard_value_lem (all p i)) (heard_value_lem (all q j))
         (λ s k t. ne_eqb _ _ (λ e. d (sym (eqb-true _ _ t) ∙ same s k ∙ e)))
         ((proposed (all p i) a).0 refl)
         ((proposed (all q j) b).0 refl))
@@ -99,8 +101,10 @@ module _ (R : Rotation) (K : RotationRules R) (B : BitInstance) (L : BitRules R 
   -- what reaches two thirds of the proposals at p reaches a third at q
   proposal_carry : {p q r : ℕ} (b : ℕ) → AllWork R (suc r) → In p observers → In q observers → ProposalTwoThirds R B p r b → ProposalThird R B q r b
   proposal_carry {p} {q} {r} b all i j two =
-      let same : (s : ℕ) → In s correct → proposal_from p r s ≡ proposal_from q r s = λ s k. proposal_as_sent all i k ∙ sym (proposal_as_sent all j k) in
-      two_thirds_carry apart few (proposals R B p r b) (proposals R B q r b) (heard_propose_lem (all p i)) (heard_propose_lem (all q j)) (λ s k. rw (same s k)) two
+      let same : (s : ℕ) → In s correct → proposal_from p r s ≡ proposal_from q r s =
+      λ s k. proposal_as_sent all i k ∙ sym (proposal_as_sent all j k) in
+      two_thirds_carry apart few (proposals R B p r b) (proposals R B q r b) (heard_propose_lem (all p i)) (heard_propose_lem (all q j))
+      (λ s k. rw (same s k)) two
 
   -- where somebody is strong, all have its bit
   strong_common : {p q r : ℕ} → AllWork R (suc r) → Undecided R (suc r) → In p observers → In q observers → strong p r ≡ true → own q r ≡ own p r
@@ -191,8 +195,8 @@ module _ (R : Rotation) (K : RotationRules R) (B : BitInstance) (L : BitRules R 
       let all : Agreed R B observers (own k r) (suc r) = λ p i v. common_value j c i in
       (own k r, own_bit w, λ p t i h d. agreed_decision t watch (λ q l. l) all (omega (arith, c.early)) c.before i h d)
 
-  pub bits_agree : {p q s t : ℕ} → In p observers → In q observers → s ≤ suc (member_count R) → t ≤ suc (member_count R) → decided p s ≡ true → decided q t ≡ true
-      → decision p s ≡ decision q t
+  pub bits_agree : {p q s t : ℕ} → In p observers → In q observers → s ≤ suc (member_count R) → t ≤ suc (member_count R)
+      → decided p s ≡ true → decided q t ≡ true → decision p s ≡ decision q t
   bits_agree {p} {q} {s} {t} i j h k d e = let all = decision_common.2 in all p s i h d ∙ sym (all q t j k e)
 
   -- the inputs are the correct ones': a listener's first bit is nobody's

@@ -17,7 +17,8 @@ use Rattle.controller.specs.Received.{senders}
 use Rattle.controller.specs.State.{View, view, first_rounds}
 use Rattle.controller.specs.declared.state.State.{State}
 use Rattle.run.specs.FirstHeard.{heard, Brought, first_brought, FirstHeard}
-use Rattle.run.proofs.Argument.Calls.{makes_view, received_with, made_by, accepted_fits, accepted_makes, accepted_or_kept, promise_keeps, handed_front, handed_rest, state_append, start_returns, given_listed, state_own}
+use Rattle.run.proofs.Argument.Calls.{makes_view, received_with, made_by, accepted_fits, accepted_makes, accepted_or_kept, promise_keeps}
+use Rattle.run.proofs.Argument.Calls.{handed_front, handed_rest, state_append, start_returns, given_listed, state_own}
 use Rattle.run.specs.Run.{Member, TrayCall, Accepted, HandedOn, Controller, state_after}
 
 -- ---- one call that works

@@ -15,7 +15,8 @@ use Rattle.controller.specs.State.{View, undecided, start_view, same, sound_rule
 use Rattle.controller.specs.First.{firsts_after}
 use Rattle.controller.specs.Received.{frame_of, stand_in, senders, receive}
 use Rattle.controller.specs.Rotation.{roster, tally, mentioned, echoed, joined, candidates_after, decides, king_after}
-use Rattle.controller.specs.Bit.{bit_taken, decision_after, value_said, value_two_thirds, proposal_third, proposal_two_thirds, proposal, bit_adopted, strong_after, opinion}
+use Rattle.controller.specs.Bit.{bit_taken, decision_after, value_said, value_two_thirds, proposal_third, proposal_two_thirds, proposal, bit_adopted}
+use Rattle.controller.specs.Bit.{strong_after, opinion}
 use Rattle.controller.specs.Rules.{step, next}
 use Rattle.controller.specs.Refusals.{start_refusal, tray_refusal}
 use Rattle.controller.specs.declared.state.State.{State}
@@ -194,8 +195,9 @@ pub record Tested : Type 0 where
 pub tested : Tested
 unfolding round_of entry_count sender well_formed part entries
     kind_of chosen_by said_by bit_fits max_count length_fits round_fits head_fits body_fits read_refusal content frame_bytes
-    third two_thirds sound_rules sound_beside sound frame_of stand_in receive firsts_after roster tally mentioned echoed joined candidates_after decides king_after
-    bit_taken decision_after value_said value_two_thirds proposal_third proposal_two_thirds proposal bit_adopted strong_after opinion step start_refusal tray_refusal
+    third two_thirds sound_rules sound_beside sound frame_of stand_in receive firsts_after roster tally mentioned echoed joined candidates_after decides
+    king_after bit_taken decision_after value_said value_two_thirds proposal_third proposal_two_thirds proposal bit_adopted strong_after opinion step
+    start_refusal tray_refusal
 tested =
     record {
       one_run = refl;

@@ -1,7 +1,8 @@
 -- Laws of damage: other bytes, as many, in the place of one entry's frame leave a well packed tray well packed, and every other entry as it was.
 use Rattle.std.specs.Prelude.{ℕ, zero, suc, ◌+◌, ◌-◌, ◌≤◌, ◌<◌, true, ◌⊎◌, ◌≢◌, ◌≡◌, refl, length, get_or, set, List, [], ◌∷◌, ◌++◌}
 use mathlib.Core.List.{Memᴰ}
-use Rattle.std.proofs.Common.{inl, inr, sym, ap, ◌∙◌, length-set, length-take-le, take_at, get_or-set_same, get_or-set_other, ext_get_or, append_assoc, le-leb, ne_eqb, arith}
+use Rattle.std.proofs.Common.{inl, inr, sym, ap, ◌∙◌, length-set, length-take-le, take_at, get_or-set_same, get_or-set_other, ext_get_or}
+use Rattle.std.proofs.Common.{append_assoc, le-leb, ne_eqb, arith}
 use Rattle.std.proofs.Math.Decide.{ℕ_discrete, dec_lt}
 use Rattle.std.proofs.Math.ListN.{take, drop, length-append, length-drop, get_or-append}
 use Rattle.std.proofs.Math.Seq.{drop_at, get_or-append-add, get_or-take, get_or-drop}
@@ -25,7 +26,8 @@ part_same s s' o n as_long inside same =
     (ext_get_or 0 (take n (drop o s')) (take n (drop o s)) (long s' as_long ∙ sym (long s refl))
     (λ k l.
     let l' : k < n = rw (long s' as_long) at l in
-    get_or-take n (drop o s') k 0 l' ∙ get_or-drop o s' k 0 ∙ same (o + k) (omega arith) (omega arith) ∙ sym (get_or-take n (drop o s) k 0 l' ∙ get_or-drop o s k 0)))
+    get_or-take n (drop o s') k 0 l' ∙ get_or-drop o s' k 0 ∙ same (o + k) (omega arith) (omega arith)
+    ∙ sym (get_or-take n (drop o s) k 0 l' ∙ get_or-drop o s k 0)))
 
 -- ---- the header and the directory
 

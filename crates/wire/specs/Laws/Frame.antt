@@ -1,5 +1,6 @@
 -- Laws of frames.
-use Rattle.std.specs.Prelude.{ℕ, zero, suc, ◌+◌, ◌*◌, ◌%◌, ◌≤◌, Bool, true, false, cond, ◌&&◌, List, [], ◌∷◌, ◌++◌, ◌≢◌, ◌≡◌, refl, leb, eqb, length, get_or, drop}
+use Rattle.std.specs.Prelude.{ℕ, zero, suc, ◌+◌, ◌*◌, ◌%◌, ◌≤◌, Bool, true, false, cond, ◌&&◌, List, [], ◌∷◌, ◌++◌, ◌≢◌, ◌≡◌, refl, leb, eqb, length}
+use Rattle.std.specs.Prelude.{get_or, drop}
 use Rattle.std.proofs.Math.Bool.{and-eq-true_iff}
 use Rattle.std.proofs.Common.{append-nil, sym, ap, ◌∙◌, leb-true, eqb-true, le-leb, eq-eqb, ne_eqb, le_trans, arith}
 use Rattle.std.proofs.Math.Option.{Option, some, none}

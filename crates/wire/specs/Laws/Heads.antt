@@ -31,7 +31,8 @@ bit_fits_lem k b l h = rw (lt-leb k 2 (omega arith)) (pick (eqb k 3))
 
 -- ---- eight bytes
 
-module _ (s : List ℕ) (t b : ℕ) (bytes : (i : ℕ) → i < frame_header → get_or s i 0 < 256) (whole : length s ≡ frame_header) (short : Short t) (few : b < 2) where
+module _ (s : List ℕ) (t b : ℕ)
+    (bytes : (i : ℕ) → i < frame_header → get_or s i 0 < 256) (whole : length s ≡ frame_header) (short : Short t) (few : b < 2) where
   -- from what they say to their number
   said_head : bit_in (content s t) ≡ b → head_at s 0 ≡ head_of t b
   said_head = pick (content s t) refl

@@ -1,12 +1,15 @@
 -- Laws of trays.
-use Rattle.std.specs.Prelude.{ℕ, zero, suc, ◌+◌, ◌*◌, ◌-◌, ◌/◌, ◌≤◌, ◌<◌, Bool, true, false, cond, ◌&&◌, List, [], ◌≡◌, refl, leb, eqb, length, get_or, take, drop}
+use Rattle.std.specs.Prelude.{ℕ, zero, suc, ◌+◌, ◌*◌, ◌-◌, ◌/◌, ◌≤◌, ◌<◌, Bool, true, false, cond, ◌&&◌, List, [], ◌≡◌, refl, leb, eqb, length}
+use Rattle.std.specs.Prelude.{get_or, take, drop}
 use Rattle.std.proofs.Math.Bool.{and-eq-true_iff}
 use Rattle.std.proofs.Math.Path.{ap}
-use Rattle.std.proofs.Common.{subst, ◌∙◌, ⊎_elim, leb-true, eqb-true, le-leb, lt-ltb, eq-or-lt_of_le, length-take, length-drop, get_or-take, get_or-drop, length-take-le, arith}
+use Rattle.std.proofs.Common.{subst, ◌∙◌, ⊎_elim, leb-true, eqb-true, le-leb, lt-ltb, eq-or-lt_of_le, length-take, length-drop, get_or-take}
+use Rattle.std.proofs.Common.{get_or-drop, length-take-le, arith}
 use Rattle.wire.specs.Limits.{tray_header, entries_at, entry_width, offset_at, zero_at, max_tray, max_entries}
 use Rattle.wire.specs.Laws.Words.{half_below}
 use Rattle.wire.specs.Words.{Below, half_at, word_at}
-use Rattle.wire.specs.Tray.{Entry, entry_count, entry_at, offset_of, length_of, directory, word_of, sender, place, chained, well_formed, part, entries_from, entries}
+use Rattle.wire.specs.Tray.{Entry, entry_count, entry_at, offset_of, length_of, directory, word_of, sender, place, chained, well_formed, part}
+use Rattle.wire.specs.Tray.{entries_from, entries}
 
 -- ---- the directory
 

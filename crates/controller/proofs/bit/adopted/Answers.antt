@@ -1,5 +1,5 @@
 -- `controller::bit::adopted` meets its contract: each branch gives the tests of `adopted_from` their values.
-use Rattle.std.proofs.Common.{rules, le-leb}
+use Rattle.std.proofs.Common.{le-leb}
 use Rattle.std.proofs.lemmas.Bool.{lt-leb}
 use Rattle.controller.specs.Work.Bit.{adopted_from}
 use Rattle.controller.specs.Thirds.{third}

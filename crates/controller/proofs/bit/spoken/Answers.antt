@@ -1,9 +1,6 @@
 -- `controller::bit::spoken` meets its contract: the bit, strong and said are those of the rules, since the two counts are; an own bit that is not 0 is 1.
-use Prim.Native.Nat.{ℕ, ◌≤◌}
-use Rattle.std.specs.Prelude.{true, cond, eqb, length}
-use Rattle.std.proofs.Math.Logic.{◌≢◌}
-use Rattle.std.proofs.Math.Path.{◌≡◌, ◌∙◌}
-use Rattle.std.proofs.Common.{arith, rules}
+use Rattle.std.specs.Prelude.{ℕ, ◌≤◌, true, cond, ◌≢◌, ◌≡◌, eqb, length}
+use Rattle.std.proofs.Common.{◌∙◌, arith}
 use Rattle.controller.specs.Bit.{proposal_third, proposal_two_thirds, bit_adopted, strong_after, opinion}
 use Rattle.controller.specs.Fields.{state_of}
 use Rattle.controller.specs.Laws.Rules.{bit_adopted_bound}
@@ -32,15 +29,6 @@ module _ (v : View) {m : Received} {n : Counts} {h b d : ℕ} (active : undecide
 
   turned_one : (s : ℕ) → v.bit.own ≤ 1 → b ≢ 0 → s ≡ cond (two_thirds n.ones h) 1 0 → TurnsBit v m (record { bit = b; strong = s; said = d })
   turned_one s own e strong = turned 1 n.ones s (omega (arith, adopted_is, bit_adopted_bound v m own)) counts.ones strong
-
-pub adopted-bit-requires : goal.adopted-bit-requires
-adopted-bit-requires c = (c.requires.0, c.requires.1)
-
-pub strong_of-requires : goal.strong_of-requires
-strong_of-requires c = (c.requires.0, c.requires.2)
-
-pub strong_of-requires-else-bit-eq0 : goal.strong_of-requires-else-bit-eq0
-strong_of-requires-else-bit-eq0 c = (c.requires.1, c.requires.2)
 
 pub returns-then-bit-eq0 : goal.returns-then-bit-eq0
 returns-then-bit-eq0 c l x e m active counts heard =

@@ -1,5 +1,5 @@
 -- `controller::bit::strong_of` meets its contract: the branch gives `two_thirds` its value.
-use Rattle.std.proofs.Common.{rules, le-leb}
+use Rattle.std.proofs.Common.{le-leb}
 use Rattle.std.proofs.lemmas.Bool.{lt-leb}
 use Rattle.controller.specs.Thirds.{two_thirds}
 use Rattle.controller.proofs.bit.strong_of.Goals as goal

@@ -1,30 +1,17 @@
 -- `controller::received::count_bits` meets its contract: after j turns the two totals are the counts over the first j of those heard.
-use Prim.Native.Nat.{ℕ, ◌+◌, ◌-◌, ◌≤◌, ◌<◌}
-use Rattle.std.specs.Prelude.{Bool, true, false, cond, List, refl, eqb, take}
-use Rattle.std.proofs.Math.Path.{◌≡◌, ◌∙◌}
-use Rattle.std.proofs.Common.{sym, ap, arith, rules}
+use Rattle.std.specs.Prelude.{ℕ, ◌+◌, ◌≤◌, ◌<◌, Bool, true, false, cond, List, ◌≡◌, refl, eqb}
+use Rattle.std.proofs.Common.{sym, ap, ◌∙◌, arith}
 use Rattle.std.proofs.Math.ListN.{get_or}
 use Rattle.std.proofs.Math.Seq.{take_all}
-use Rattle.controller.specs.Fields.{state_of}
 use Rattle.controller.specs.Laws.Lists.{count_further}
 use Rattle.controller.specs.Laws.Work.Ready.{ready_listed, ready_used, ready_says}
 use Rattle.controller.specs.Lists.{count_if}
-use Rattle.controller.specs.Received.{says}
 use Rattle.controller.specs.Work.Received.{received_by, Ready, Votes}
 use Rattle.controller.specs.declared.state.State.{State}
-use Rattle.wire.specs.Frame.{kind_of}
 use Rattle.wire.specs.Heads.{Short, head_of}
-use Rattle.wire.specs.Limits.{max_numbers}
 use Rattle.wire.specs.Numbers.{listed}
+use Rattle.controller.proofs.received.count_bits.Invariants.{counted, total}
 use Rattle.controller.proofs.received.count_bits.Goals as goal
-
--- whether the frame received under x is counted
-abbrev counted : State → List ℕ → ℕ → ℕ → Bool
-counted s b bit x = says (kind_of s.round) bit ((received_by s b).from x)
-
--- those counted among the first j
-abbrev total : State → List ℕ → ℕ → ℕ → ℕ
-total s b bit j = count_if (counted s b bit) (take j (listed s.heard))
 
 module _ {s : State} {b f : List ℕ} (ready : Ready s b f) (bit j n : ℕ) (sum : n ≡ total s b bit j) where
   -- one turn: the header that is read at place j, counted
@@ -54,34 +41,26 @@ of_round one head other is h e = rw e at h
 pub loop-j-init : goal.loop-j-init
 loop-j-init c = (omega arith, omega arith, omega arith, λ h x e ready short. (refl, refl))
 
-pub bounds-notes-j : goal.bounds-notes-j
-bounds-notes-j c = omega (arith, (let it : c.loop-j.j < max_numbers = omega (arith, c.loop-j-test.true, ((c)).requires) in it))
-
-pub loop-j-smaller : goal.loop-j-smaller
-loop-j-smaller c = omega (arith, c.loop-j-test.true)
-
 pub loop-j-preserved : goal.loop-j-preserved
 loop-j-preserved c =
-    let at-loop = (c) in
-    let v = at-loop.loop-j in
-    let h = c.loop-j-test.true in
-    let made = at-loop in (
-      omega (arith, h),
-      omega (arith, v.invariant.1, c.one_if_head-zeros.ensures, one_most c.short_head-head.result made.head_of-zero.result),
-      omega (arith, v.invariant.2, c.one_if_head-ones.ensures, one_most c.short_head-head.result made.head_of-one.result),
-      λ heard x e ready short.
-          let so_far = v.invariant.3 heard x e ready short in
-          let zero = of_round _ c.short_head-head.result _ _ c.one_if_head-zeros.ensures made.head_of-zero.ensures in
-          let one = of_round _ c.short_head-head.result _ _ c.one_if_head-ones.ensures made.head_of-one.ensures in
-          let said = c.short_head-head.ensures _ _ short made.head_of-own.ensures in (
-            turn ready 0 v.j v.zeros so_far.0 _ _ (omega arith) h short said zero,
-            turn ready 1 v.j v.ones so_far.1 _ _ (omega arith) h short said one,
+    let v = c.loop-j in
+    let head = c.short_head-head in (
+      omega arith,
+      omega (arith, one_most head.result c.head_of-zero.result),
+      omega (arith, one_most head.result c.head_of-one.result),
+      λ h x e ready short.
+          let so_far = v.invariant.3 h x e ready short in
+          let zero = of_round _ head.result _ _ c.one_if_head-zeros.ensures c.head_of-zero.ensures in
+          let one = of_round _ head.result _ _ c.one_if_head-ones.ensures c.head_of-one.ensures in
+          let said = head.ensures _ _ short c.head_of-own.ensures in (
+            turn ready 0 v.j v.zeros so_far.0 _ _ (omega arith) c.loop-j-test.true short said zero,
+            turn ready 1 v.j v.ones so_far.1 _ _ (omega arith) c.loop-j-test.true short said one,
           ),
     )
 
 pub returns : goal.returns
 returns c = (
-  (omega (arith, c.loop-j.invariant.0, c.loop-j.invariant.1), omega (arith, c.loop-j.invariant.0, c.loop-j.invariant.2)),
+  (omega arith, omega arith),
   λ h x e ready short.
       let counts = c.loop-j.invariant.3 h x e ready short in
       record {

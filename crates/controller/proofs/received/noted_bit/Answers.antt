@@ -1,7 +1,6 @@
 -- `controller::received::noted_bit` meets its contract: the bit of the one frame is read; where there is none, or several, 3 stands for that.
-use Rattle.std.specs.Prelude.{ℕ, List, refl}
-use Rattle.std.proofs.Math.Path.{◌≡◌, ◌∙◌}
-use Rattle.std.proofs.Common.{sym, rules}
+use Rattle.std.specs.Prelude.{◌≡◌, ℕ, List, refl}
+use Rattle.std.proofs.Common.{sym, ◌∙◌}
 use Rattle.controller.specs.Received.{read_in}
 use Rattle.controller.specs.Work.Received.{noted}
 use Rattle.wire.proofs.NoPlace.{no_place}
@@ -18,9 +17,9 @@ found b k t o n s p e = rw (p, e)
 pub returns-in_default : goal.returns-in_default
 returns-in_default c =
     no_place (λ f. 3 ≡ bit_in (read_in c.args.round (meaning c.args.tray.now f))) refl refl (found_by c.args.note)
-    (rw c.found_by-found.ensures at c.in_default.keys2)
+    (rw c.found_by-found.ensures at c.in_default.not-At)
 
 pub returns : goal.returns
 returns c =
-    let at = sym c.found_by-found.ensures ∙ c.found.given.1 in
+    let at = sym c.found_by-found.ensures ∙ c.in-At.is in
     c.frame_bit.ensures ∙ found c.args.tray.now c.args.note c.args.round _ _ _ at c.part_of.ensures

@@ -1,22 +1,17 @@
 -- `controller::received::senders_fit` meets its contract: the senders that are left fit exactly if all do.
-use Prim.Native.Nat.{ℕ, ◌+◌, ◌-◌, ◌≤◌, ◌<◌}
-use Rattle.std.specs.Prelude.{true, false, not}
+use Rattle.std.specs.Prelude.{ℕ, ◌+◌, ◌-◌, ◌≤◌, ◌<◌, true, false, not, List, ◌∷◌, ◌≡◌}
+use Rattle.std.proofs.Common.{sym, ◌∙◌, arith, rules}
 use Rattle.std.proofs.Math.Bool.{and-false}
-use mathlib.Core.List.{List, ◌∷◌}
-use Rattle.std.proofs.Math.Path.{◌≡◌, ◌∙◌}
-use Rattle.std.proofs.Common.{sym, ap, arith, rules}
 use Rattle.std.proofs.Math.Nat.{sub-zero}
 use borrow.Author.Tests.{eq-eqb, ne_eqb}
+use Rattle.controller.proofs.Directory.{entry_sent}
 use Rattle.controller.specs.Laws.Received.{senders_step}
 use Rattle.controller.specs.Lists.{mem}
-use Rattle.controller.specs.Received.{senders}
 use Rattle.controller.specs.Work.Received.{others_only}
-use Rattle.wire.specs.Tray.{word_of, sender, entries_from, entries}
+use Rattle.wire.specs.Tray.{sender, entries}
+use Rattle.controller.proofs.received.senders_fit.Invariants.{rest}
+use Rattle.controller.proofs.received.senders_fit.Goals.{After-entry_sender-x}
 use Rattle.controller.proofs.received.senders_fit.Goals as goal
-
--- the senders from entry i on
-abbrev rest : List ℕ → ℕ → ℕ → List ℕ
-rest b n i = senders (entries_from b (n - i) i)
 
 module _ (b : List ℕ) (own n i x : ℕ) (h : i < n) (e : x ≡ sender b i) where
   next : rest b n i ≡ x ∷ rest b n (i + 1)
@@ -34,29 +29,27 @@ module _ (b : List ℕ) (own n i x : ℕ) (h : i < n) (e : x ≡ sender b i) whe
 done : (b : List ℕ) (own n i : ℕ) → n ≤ i → true ≡ others_only own (rest b n i)
 done b own n i h = let e : n - i ≡ 0 = omega arith in rw e
 
+-- the sender that is read
+read : (c : After-entry_sender-x) → c.entry_sender-x.result ≡ sender c.args.tray.now c.loop-i.i
+read c = entry_sent _ c.directory-entries.ensures _ _ c.entry_sender-x.ensures
+
 pub loop-i-init : goal.loop-i-init
 unfolding entries
 loop-i-init c = (search rules, rw (c.entry_count-count.ensures, sub-zero))
 
 pub returns-then-x-eq0 : goal.returns-then-x-eq0
 returns-then-x-eq0 c =
-    let a = c.args in
-    nobody a.tray.now a.own c.entry_count-count.result c.loop-i.i _ c.loop-i-test.true ((let it : c.entry_sender-x.result ≡ sender ((c)).args.tray.now c.loop-i.i = c.entry_sender-x.ensures ∙ ap (λ (d : List ℕ). word_of d c.loop-i.i 0) c.directory-entries.ensures in it))
-    c.if-x-eq0.true ∙ c.loop-i.invariant.1
+    nobody _ _ _ _ _ c.loop-i-test.true (read (goal.at.returns-then-x-eq0 c).After-entry_sender-x) c.if-x-eq0.true ∙ c.loop-i.invariant.1
 
 pub returns-then-x-own : goal.returns-then-x-own
 returns-then-x-own c =
-    let a = c.args in
-    oneself a.tray.now a.own c.entry_count-count.result c.loop-i.i _ c.loop-i-test.true ((let it : c.entry_sender-x.result ≡ sender ((c)).args.tray.now c.loop-i.i = c.entry_sender-x.ensures ∙ ap (λ (d : List ℕ). word_of d c.loop-i.i 0) c.directory-entries.ensures in it))
-    c.if-x-own.true ∙ c.loop-i.invariant.1
+    oneself _ _ _ _ _ c.loop-i-test.true (read (goal.at.returns-then-x-own c).After-entry_sender-x) c.if-x-own.true ∙ c.loop-i.invariant.1
 
 pub loop-i-preserved : goal.loop-i-preserved
 loop-i-preserved c =
-    let a = c.args in
-    let more = another a.tray.now a.own c.entry_count-count.result c.loop-i.i _ c.loop-i-test.true ((let it : c.entry_sender-x.result ≡ sender ((c)).args.tray.now c.loop-i.i = c.entry_sender-x.ensures ∙ ap (λ (d : List ℕ). word_of d c.loop-i.i 0) c.directory-entries.ensures in it)) in
-    (search rules, more c.if-x-eq0.false c.if-x-own.false ∙ c.loop-i.invariant.1)
+    let it = read (goal.at.loop-i-preserved c).After-entry_sender-x in
+    let more = another _ _ _ _ _ c.loop-i-test.true it c.if-x-eq0.false c.if-x-own.false in
+    (search rules, more ∙ c.loop-i.invariant.1)
 
 pub returns : goal.returns
-returns c =
-    let a = c.args in
-    done a.tray.now a.own c.entry_count-count.result c.loop-i.i c.loop-i-test.false ∙ c.loop-i.invariant.1
+returns c = done _ _ _ _ c.loop-i-test.false ∙ c.loop-i.invariant.1

@@ -1,9 +1,6 @@
 -- `controller::received::short_head` meets its contract: a frame of eight bytes says a bit exactly if it is the header with that bit, and any other is void.
-use Prim.Native.Nat.{ℕ, ◌/◌, ◌%◌, ◌<◌}
-use Rattle.std.specs.Prelude.{Bool, true, false, cond, List, refl, eqb}
-use Rattle.std.proofs.Math.Logic.{◌≢◌}
-use Rattle.std.proofs.Math.Path.{◌≡◌}
-use Rattle.std.proofs.Common.{ap, arith, rules}
+use Rattle.std.specs.Prelude.{ℕ, ◌/◌, ◌%◌, Bool, true, false, cond, List, ◌≢◌, ◌≡◌, refl, eqb}
+use Rattle.std.proofs.Common.{ap, arith}
 use Rattle.std.proofs.Math.Decide.{ℕ_discrete}
 use borrow.Author.Tests.{eq-eqb, ne_eqb}
 use Rattle.wire.specs.Found.{meaning}
@@ -58,5 +55,4 @@ returns-then-note-ne-FRAME_HEADER c t d short own = no_vote _ _ d t short c.if-n
 
 pub returns : goal.returns
 returns c t d short own =
-    let bytes : Below 256 c.args.tray.now = λ i. let h = c.shared-slice-known.given i in omega arith in
-    vote _ _ d t short c.if-note-eq-NO_FRAME.false bytes c.if-note-ne-FRAME_HEADER.false _ c.read_head.ensures
+    vote _ _ d t short c.if-note-eq-NO_FRAME.false (λ i. (c.type_inv.tray i).fits) c.if-note-ne-FRAME_HEADER.false _ c.read_head.ensures

@@ -1,13 +1,10 @@
 -- `controller::rotation::roster` meets its contract: after j turns the list has those of the first j heard that sent init.
-use Prim.Native.Nat.{ℕ, ◌+◌, ◌-◌, ◌≤◌, ◌<◌}
-use Rattle.std.specs.Prelude.{Bool, true, false, eqb, length, set, take}
-use mathlib.Core.List.{List, [], ◌∷◌, ◌++◌, append-nil}
-use Rattle.std.proofs.Common.{inl, inr, sym, ap, add-one, arith, rules, length-append, take-suc}
-use Rattle.std.proofs.Math.Path.{◌≡◌, ◌∙◌}
-use borrow.Author.Tests.{eq-eqb, ne_eqb}
-use Rattle.std.proofs.Math.ListN.{get_or}
+use Rattle.std.specs.Prelude.{ℕ, ◌+◌, ◌-◌, ◌<◌, Bool, true, false, List, [], ◌∷◌, ◌++◌, ◌≡◌, eqb, length, get_or, take}
+use Rattle.std.proofs.Common.{sym, ap, ◌∙◌, add-one, arith, length-append, take-suc, get_or-take, eq-eqb, ne_eqb}
+use Rattle.std.proofs.Math.ListN.{set}
 use Rattle.std.proofs.lemmas.List.{length-replicate}
-use Rattle.std.proofs.Math.Seq.{take_all, get_or-take}
+use Rattle.std.proofs.Math.Seq.{take_all}
+use mathlib.Core.List.{append-nil}
 use Rattle.controller.specs.Fields.{state_of}
 use Rattle.controller.specs.Laws.Lists.{keep_append}
 use Rattle.controller.specs.Laws.Work.Ready.{ready_listed, ready_used, ready_says}
@@ -23,15 +20,9 @@ use Rattle.wire.specs.Laws.Numbers.{listed_stored}
 use Rattle.wire.specs.Limits.{max_numbers}
 use Rattle.wire.specs.Numbers.{stored, listed}
 use Rattle.wire.specs.declared.frame.Numbers.{Numbers}
+use Rattle.controller.proofs.rotation.roster.Invariants.{sent_init, senders}
+use Rattle.controller.proofs.rotation.roster.Goals.{then-bit-eq-NO_BIT, else-bit-eq-NO_BIT}
 use Rattle.controller.proofs.rotation.roster.Goals as goal
-
--- whether x sent init
-abbrev sent_init : State → List ℕ → ℕ → Bool
-sent_init s b x = says 1 2 ((received_by s b).from x)
-
--- those of the first j heard that did
-abbrev senders : State → List ℕ → ℕ → List ℕ
-senders s b j = keep (sent_init s b) (take j (listed s.heard))
 
 module _ (f : ℕ → Bool) (l : List ℕ) (j : ℕ) (h : j < length l) where
   passes : f (get_or l j 0) ≡ true → keep f (take (j + 1) l) ≡ keep f (take j l) ++ get_or l j 0 ∷ []
@@ -78,43 +69,33 @@ module _ {s : State} {b f : List ℕ} (ready : Ready s b f) (first : kind_of s.r
 pub loop-j-init : goal.loop-j-init
 loop-j-init c = (omega arith, omega arith, λ x e ready first. ap (λ (s : List ℕ). record { len = 0; at = s }) c.requires.1)
 
-pub bounds-heard-j : goal.bounds-heard-j
-bounds-heard-j c = omega (arith, (let it : c.loop-j.j < max_numbers = omega (arith, c.loop-j-test.true, c.requires.0) in it))
-
-pub bounds-notes-j : goal.bounds-notes-j
-bounds-notes-j c = omega (arith, (let it : c.loop-j.j < max_numbers = omega (arith, c.loop-j-test.true, c.requires.0) in it))
-
-pub bounds-list-k : goal.bounds-list-k
-bounds-list-k c = omega (arith, (let it : c.loop-j.k < max_numbers = omega (arith, c.loop-j.invariant.1, (let it : c.loop-j.j < max_numbers = omega (arith, c.loop-j-test.true, ((c)).requires.0) in it)) in it))
-
-pub loop-j-smaller : goal.loop-j-smaller
-loop-j-smaller c = omega (arith, c.loop-j-test.true)
-
 pub loop-j-preserved : goal.loop-j-preserved
 loop-j-preserved c =
+    let j = c.loop-j.j in
     let list = in_places c.loop-j.k c.loop-j.list in
+    let read = c.received_bit-bit.ensures in
+    let room : c.loop-j.k < max_numbers = omega arith in
     elim c.if-bit-eq-NO_BIT.branch [
-      | inl p ↦ (
-        omega (arith, c.loop-j-test.true),
-        omega (arith, p.2, c.loop-j.invariant.1),
+      | then-bit-eq-NO_BIT w ↦ (
+        omega arith,
+        omega arith,
         λ x e ready first.
-            (λ i. record { len = p.2 i; at = p.1 i })
-            ∙ taken ready first c.loop-j.j _ c.loop-j-test.true c.received_bit-bit.ensures list (c.loop-j.invariant.2 x e ready first) p.0.true ((let it : c.loop-j.k < max_numbers = omega (arith, c.loop-j.invariant.1, (let it : c.loop-j.j < max_numbers = omega (arith, c.loop-j-test.true, c.requires.0) in it)) in it)),
+            (λ i. record { len = w.k-is i; at = w.list-is i })
+            ∙ taken ready first j _ c.loop-j-test.true read list (c.loop-j.invariant.2 x e ready first) w.if-bit-eq-NO_BIT.true room,
       )
-      | inr p ↦ (
-        omega (arith, c.loop-j-test.true),
-        omega (arith, p.2, c.loop-j.invariant.1),
+      | else-bit-eq-NO_BIT w ↦ (
+        omega arith,
+        omega arith,
         λ x e ready first.
-            (λ i. record { len = p.2 i; at = p.1 i })
-            ∙ left ready first c.loop-j.j _ c.loop-j-test.true c.received_bit-bit.ensures list (c.loop-j.invariant.2 x e ready first) p.0.left,
+            (λ i. record { len = w.k-is i; at = w.list-is i })
+            ∙ left ready first j _ c.loop-j-test.true read list (c.loop-j.invariant.2 x e ready first) w.if-bit-eq-NO_BIT.false,
       )
     ]
 
 pub returns : goal.returns
 unfolding roster
 returns c x e ready first =
-    let args = c.args in
-    let s = state_of args.fields args.heard.now x e in
+    let s = state_of c.args.fields c.args.heard.now x e in
     c.loop-j.invariant.2 x e ready first
-    ∙ ap (λ (l : List ℕ). stored (keep (sent_init s args.tray.now) l))
-    (take_all c.loop-j.j (listed s.heard) (omega (arith, c.loop-j-test.false, ready_used ready)) ∙ ready_listed ready)
+    ∙ ap (λ (l : List ℕ). stored (keep (sent_init s c.args.tray.now) l))
+    (take_all c.loop-j.j (listed s.heard) (omega (arith, ready_used ready)) ∙ ready_listed ready)

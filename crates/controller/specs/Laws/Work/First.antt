@@ -1,5 +1,6 @@
 -- Laws of the record beside those heard, as first.rt tests it, and of lists, as sound.rt does: counts of zeros say what the rules say place by place.
-use Rattle.std.specs.Prelude.{ℕ, zero, suc, ◌+◌, ◌-◌, ◌≤◌, ◌<◌, Bool, true, false, not, cond, ◌&&◌, List, [], ◌∷◌, ◌++◌, ◌≢◌, ◌≡◌, refl, ltb, eqb, get_or, take, drop, replicate}
+use Rattle.std.specs.Prelude.{ℕ, zero, suc, ◌+◌, ◌-◌, ◌≤◌, ◌<◌, Bool, true, false, not, cond, ◌&&◌, List, [], ◌∷◌, ◌++◌, ◌≢◌, ◌≡◌, refl, ltb, eqb}
+use Rattle.std.specs.Prelude.{get_or, take, drop, replicate}
 use Rattle.std.proofs.Math.Bool.{and_assoc, and-false}
 use mathlib.Core.List.Memᴰ
 use Rattle.std.proofs.Common.{inl, inr, ◌∙◌, arith, eqb-true, eq-eqb, ne_eqb, lt-ltb, le-leb, length-drop, take-append-drop, length-take-le}

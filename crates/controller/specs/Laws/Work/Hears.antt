@@ -1,5 +1,6 @@
 -- Laws of hearing a tray entry by entry, from the directory's end to its front: what is in hand before an entry, and what is in hand with it.
-use Rattle.std.specs.Prelude.{ℕ, zero, suc, ◌+◌, ◌-◌, ◌≤◌, ◌<◌, Bool, true, false, not, cond, ◌&&◌, List, ◌∷◌, ◌≢◌, ◌≡◌, refl, leb, eqb, ltb, length, get_or, set, replicate}
+use Rattle.std.specs.Prelude.{ℕ, zero, suc, ◌+◌, ◌-◌, ◌≤◌, ◌<◌, Bool, true, false, not, cond, ◌&&◌, List, ◌∷◌, ◌≢◌, ◌≡◌, refl, leb, eqb, ltb, length}
+use Rattle.std.specs.Prelude.{get_or, set, replicate}
 use Rattle.std.proofs.Math.Bool.{and_comm}
 use mathlib.Core.List.Memᴰ
 use Rattle.std.proofs.Common.{inl, inr, sym, ap, subst, ◌∙◌, arith, eq-eqb, ne_eqb, le-ltb, length-set, get_or-set_same, get_or-set_other}

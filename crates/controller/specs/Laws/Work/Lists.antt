@@ -1,6 +1,9 @@
 -- Laws of stored lists: the place of a number, a number put in at its place, and what the stored form is then.
-use Rattle.std.specs.Prelude.{ℕ, zero, suc, ◌+◌, ◌-◌, ◌%◌, ◌≤◌, ◌<◌, ◌≡◌, refl, true, false, ◌≢◌, List, [], ◌∷◌, ◌++◌, eqb, ltb, length, get_or, set, take, drop, replicate}
-use Rattle.std.proofs.Common.{sym, ap, ◌∙◌, inl, inr, append_assoc, add-one, arith, ltb-true, ltb-false, eq-eqb, ne_eqb, lt-ltb, le-ltb, length-append, length-take, length-drop, take-suc, set-set, get_or-set_other, get_or-append-add, get_or-take, get_or-drop, drop_at, length-take-le, take-take}
+use Rattle.std.specs.Prelude.{ℕ, zero, suc, ◌+◌, ◌-◌, ◌%◌, ◌≤◌, ◌<◌, ◌≡◌, refl, true, false, ◌≢◌, List, [], ◌∷◌, ◌++◌, eqb, ltb, length, get_or, set}
+use Rattle.std.specs.Prelude.{take, drop, replicate}
+use Rattle.std.proofs.Common.{sym, ap, ◌∙◌, inl, inr, append_assoc, add-one, arith, ltb-true, ltb-false, eq-eqb, ne_eqb, lt-ltb, le-ltb}
+use Rattle.std.proofs.Common.{length-append, length-take, length-drop, take-suc, set-set, get_or-set_other, get_or-append-add, get_or-take}
+use Rattle.std.proofs.Common.{get_or-drop, drop_at, length-take-le, take-take}
 use mathlib.Core.List.Memᴰ
 use Rattle.std.proofs.lemmas.List.{length-replicate, replicate-append-replicate, set_at, set_split}
 use Rattle.std.proofs.Math.ListN.{get_or-append}

@@ -15,7 +15,8 @@ use Rattle.wire.specs.Tray.{entries}
 use Rattle.wire.specs.declared.found.Found.TheVariants.{At, Nothing, Several}
 use Rattle.wire.specs.declared.frame.Numbers.{Numbers}
 use Rattle.controller.specs.Laws.Lists.{get_or_in, in_mem, mem_in, mem_out, count_short, rising_place}
-use Rattle.controller.specs.Laws.Received.{unheard_received, received_other, silent_bit, frame_bit, stand_in_bit, stand_in_list, received_says, received_opinion}
+use Rattle.controller.specs.Laws.Received.{unheard_received, received_other, silent_bit, frame_bit, stand_in_bit, stand_in_list, received_says}
+use Rattle.controller.specs.Laws.Received.{received_opinion}
 use Rattle.controller.specs.Laws.State.{Sound, rules_give, sound_list_gives, rules_heard}
 use Rattle.controller.specs.Laws.Work.Tally.{nth_list}
 use Rattle.controller.specs.Lists.{In, mem}

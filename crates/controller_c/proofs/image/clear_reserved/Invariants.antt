@@ -7,7 +7,10 @@ use Rattle.controller_c.specs.Image.{image_bytes, reserved_at, zeros_from}
 use Rattle.controller_c.proofs.image.clear_reserved.Given as goal
 
 abbrev pub invariant-loop-i : goal.invariant-loop-i
-invariant-loop-i l = (l.i ≤ image_bytes) × (length l.image ≡ length l.initial.image) × (sets l.image l.i (zeros_from l.i) ≡ sets l.initial.image reserved_at (zeros_from reserved_at))
+invariant-loop-i l =
+    (l.i ≤ image_bytes)
+    × (length l.image ≡ length l.initial.image)
+    × (sets l.image l.i (zeros_from l.i) ≡ sets l.initial.image reserved_at (zeros_from reserved_at))
 
 abbrev pub decreases-loop-i : goal.decreases-loop-i
 decreases-loop-i l = image_bytes - l.i

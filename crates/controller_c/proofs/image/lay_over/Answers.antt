@@ -14,7 +14,8 @@ use Rattle.controller.specs.Laws.State.{sound_rules_lem, since_places}
 use Rattle.controller.specs.State.{sound}
 use Rattle.controller.specs.declared.state.State.{State}
 use Rattle.controller_c.specs.Image.{sound_image}
-use Rattle.controller_c.specs.Image.{image_bytes, heard_at, candidates_at, echoes_at, since_at, reserved_at, list_width, head_bytes, list_bytes, zeros_from, laid_out}
+use Rattle.controller_c.specs.Image.{image_bytes, heard_at, candidates_at, echoes_at, since_at, reserved_at, list_width, head_bytes, list_bytes}
+use Rattle.controller_c.specs.Image.{zeros_from, laid_out}
 use Rattle.controller_c.specs.Image.{taken_apart, renewed_heard, renewed_rotation}
 use Rattle.controller_c.specs.Laws.Image.{SizedLists, rules_sized, list_bytes_length, sound_image_gives, laid_out-taken_apart}
 use Rattle.controller_c.proofs.Stores.{sets_behind, sets_over}

@@ -8,7 +8,10 @@ use Rattle.controller_c.specs.Words.{numbers_bytes}
 use Rattle.controller_c.proofs.image.put_places.Given as goal
 
 abbrev pub invariant-loop-i : goal.invariant-loop-i
-invariant-loop-i l = (l.i ≤ max_numbers) × (length l.image ≡ length l.initial.image) × (sets l.image (l.from + number_width * l.i) (numbers_bytes (drop l.i l.at)) ≡ sets l.initial.image l.from (numbers_bytes l.at))
+invariant-loop-i l =
+    (l.i ≤ max_numbers)
+    × (length l.image ≡ length l.initial.image)
+    × (sets l.image (l.from + number_width * l.i) (numbers_bytes (drop l.i l.at)) ≡ sets l.initial.image l.from (numbers_bytes l.at))
 
 abbrev pub decreases-loop-i : goal.decreases-loop-i
 decreases-loop-i l = max_numbers - l.i

@@ -13,7 +13,9 @@ pub returns-then-note-eq-NO_FRAME : goal.returns-then-note-eq-NO_FRAME
 returns-then-note-eq-NO_FRAME c = rw (eq-eqb _ _ c.if-note-eq-NO_FRAME.true)
 
 pub returns-then-same_frames : goal.returns-then-same_frames
-returns-then-same_frames c = kept c.args.tray.now c.args.note c.args.place true c.if-note-eq-NO_FRAME.false (sym c.same_frames.ensures ∙ c.if-same_frames.true)
+returns-then-same_frames c =
+    kept c.args.tray.now c.args.note c.args.place true c.if-note-eq-NO_FRAME.false (sym c.same_frames.ensures ∙ c.if-same_frames.true)
 
 pub returns-else-same_frames : goal.returns-else-same_frames
-returns-else-same_frames c = kept c.args.tray.now c.args.note c.args.place false c.if-note-eq-NO_FRAME.false (sym c.same_frames.ensures ∙ c.if-same_frames.false)
+returns-else-same_frames c =
+    kept c.args.tray.now c.args.note c.args.place false c.if-note-eq-NO_FRAME.false (sym c.same_frames.ensures ∙ c.if-same_frames.false)

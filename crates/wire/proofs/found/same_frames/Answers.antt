@@ -23,7 +23,8 @@ module _ (s : List ℕ) (a b o n p m : ℕ) (first : found_by a ≡ At o n) (sec
       pick true = refl
       pick false = refl
 
-  compared : o + n ≤ length s → p + m ≤ length s → (r : Bool) → r ≡ same_bytes (take (o + n - o) (drop o s)) (take (p + m - p) (drop p s)) → r ≡ same_frames s a b
+  compared : o + n ≤ length s → p + m ≤ length s → (r : Bool)
+      → r ≡ same_bytes (take (o + n - o) (drop o s)) (take (p + m - p) (drop p s)) → r ≡ same_frames s a b
   unfolding part
   compared h k r e =
       let x : o + n - o ≡ n = omega arith in
@@ -32,19 +33,26 @@ module _ (s : List ℕ) (a b o n p m : ℕ) (first : found_by a ≡ At o n) (sec
 
 pub returns-in_default : goal.returns-in_default
 returns-in_default c =
-    no_place (λ f. false ≡ same_at c.args.tray.now f (found_by c.args.b)) refl refl (found_by c.args.a) (λ o n e. c.in_default.not-At o n (c.found_by-first.ensures ∙ e))
+    no_place (λ f. false ≡ same_at c.args.tray.now f (found_by c.args.b)) refl refl (found_by c.args.a)
+    (λ o n e. c.in_default.not-At o n (c.found_by-first.ensures ∙ e))
 
 pub returns-in_default-second : goal.returns-in_default-second
 returns-in_default-second c =
     let first = sym c.found_by-first.ensures ∙ c.in-At.is in
-    no_place (λ f. false ≡ same_at c.args.tray.now (found_by c.args.a) f) (rw first) (rw first) (found_by c.args.b) (λ o n e. c.in_default-second.not-At o n (c.found_by-second.ensures ∙ e))
+    no_place (λ f. false ≡ same_at c.args.tray.now (found_by c.args.a) f) (rw first) (rw first) (found_by c.args.b)
+    (λ o n e. c.in_default-second.not-At o n (c.found_by-second.ensures ∙ e))
 
 pub returns-then-tray-offset : goal.returns-then-tray-offset
-returns-then-tray-offset c = short _ c.args.a c.args.b _ _ _ _ (sym c.found_by-first.ensures ∙ c.in-At.is) (sym c.found_by-second.ensures ∙ c.in-At-second.is) c.if-tray-offset.true
+returns-then-tray-offset c =
+    short _ c.args.a c.args.b _ _ _ _ (sym c.found_by-first.ensures ∙ c.in-At.is) (sym c.found_by-second.ensures ∙ c.in-At-second.is)
+    c.if-tray-offset.true
 
 pub returns-then-tray-other : goal.returns-then-tray-other
-returns-then-tray-other c = other_short _ c.args.a c.args.b _ _ _ _ (sym c.found_by-first.ensures ∙ c.in-At.is) (sym c.found_by-second.ensures ∙ c.in-At-second.is) c.if-tray-other.true
+returns-then-tray-other c =
+    other_short _ c.args.a c.args.b _ _ _ _ (sym c.found_by-first.ensures ∙ c.in-At.is) (sym c.found_by-second.ensures ∙ c.in-At-second.is)
+    c.if-tray-other.true
 
 pub returns : goal.returns
 returns c =
-    compared _ c.args.a c.args.b _ _ _ _ (sym c.found_by-first.ensures ∙ c.in-At.is) (sym c.found_by-second.ensures ∙ c.in-At-second.is) c.if-tray-offset.false c.if-tray-other.false _ c.same_bytes.ensures
+    compared _ c.args.a c.args.b _ _ _ _ (sym c.found_by-first.ensures ∙ c.in-At.is) (sym c.found_by-second.ensures ∙ c.in-At-second.is)
+    c.if-tray-offset.false c.if-tray-other.false _ c.same_bytes.ensures

@@ -21,12 +21,15 @@ pub loop-i-init : goal.loop-i-init
 loop-i-init c = (search rules, rw sub-zero)
 
 pub returns-then-half-end : goal.returns-then-half-end
-returns-then-half-end c = sym (gap c.args.tray.now c.args.count c.loop-i.i c.loop-i.end (search rules) (λ e. c.if-half-end.true (c.half.ensures.0 ∙ e))) ∙ c.loop-i.invariant.1
+returns-then-half-end c =
+    let v = c.loop-i in
+    sym (gap c.args.tray.now c.args.count v.i v.end (search rules) (λ e. c.if-half-end.true (c.half.ensures.0 ∙ e))) ∙ v.invariant.1
 
 pub loop-i-preserved : goal.loop-i-preserved
 loop-i-preserved c =
+    let v = c.loop-i in
     let here = sym c.half.ensures.0 ∙ c.if-half-end.false in
-    (search rules, sym (follows c.args.tray.now c.args.count c.loop-i.i c.loop-i.end c.half-end.result (search rules) here c.half-end.ensures.0) ∙ c.loop-i.invariant.1)
+    (search rules, sym (follows c.args.tray.now c.args.count v.i v.end c.half-end.result (search rules) here c.half-end.ensures.0) ∙ v.invariant.1)
 
 pub returns : goal.returns
 returns c = sym (done c.args.tray.now c.args.count c.loop-i.i c.loop-i.end (search rules)) ∙ c.loop-i.invariant.1
