@@ -4,3 +4,4 @@ pub mod Found
 pub mod Heard
 pub mod NextEntry
 pub mod Promises
+pub mod Tallied

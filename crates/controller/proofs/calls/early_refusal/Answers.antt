@@ -1,12 +1,12 @@
 -- `controller::calls::early_refusal` meets its contract: each test that fails gives its number, since those before it were passed.
-use Rattle.std.specs.Prelude.{true, not, leb}
+use Rattle.std.specs.Prelude.{ℕ, Bool, not, List, [], ◌∷◌, refl, leb, eqb}
 use Rattle.std.proofs.Math.Bool.{◌||◌, not-not}
-use Rattle.std.proofs.Common.{inl, inr, sym, ap, rules}
+use Rattle.std.proofs.Common.{inl, inr, sym}
 use Rattle.std.proofs.Math.Path.{◌≡◌, ◌∙◌}
-use borrow.Author.Tests.{leb-true, leb-false, lt-ltb, le-ltb, lt-leb, le-leb, eq-eqb, ne_eqb, not-true, not-false}
+use borrow.Author.Tests.{leb-true, leb-false, lt-ltb, le-ltb, lt-leb, le-leb, eq-eqb, ne_eqb}
 use Rattle.wire.specs.Limits.{max_frame, last_round}
-use Rattle.wire.specs.Tray.{well_formed}
-use Rattle.controller.specs.Fields.{whole_of}
+use Rattle.wire.specs.Refusal.{first_failed}
+use Rattle.wire.specs.Tray.{well_formed, round_of}
 use Rattle.controller.specs.Laws.Lists.{true_or_false}
 use Rattle.controller.specs.Refusals.{works_on}
 use Rattle.controller.specs.State.{View, view, undecided, sound}
@@ -21,72 +21,35 @@ works v = elim (true_or_false (leb last_round v.round)) [
   | inr e ↦ rw (e, lt-ltb v.round last_round (leb-false last_round v.round e)) (sym (not-not (undecided v)))
 ]
 
--- ---- what is passed, test by test
+-- the tests, in their order, by what the code's tests say
+tested : (s : State) (b : List ℕ) (n : ℕ) {t u v w x : Bool} → sound s ≡ t → (leb last_round s.round || not (undecided (view s))) ≡ u
+    → leb max_frame n ≡ v → well_formed b ≡ w → eqb (round_of b) s.round ≡ x
+    → first_failed ((t, 1) ∷ (not u, 2) ∷ (v, 3) ∷ (w, 4) ∷ (x, 5) ∷ []) ≡ early_refusal s b n
+unfolding early_refusal
+tested s b n one two three four five = rw (one, works (view s), two, three, four, five)
 
 pub returns-then-not-is_sound : goal.returns-then-not-is_sound
-unfolding early_refusal
-returns-then-not-is_sound c = rw (sym c.is_sound.ensures ∙ c.if-not-is_sound.true)
+returns-then-not-is_sound c = tested _ _ _ (sym c.is_sound.ensures ∙ c.if-not-is_sound.true) refl refl refl refl
 
 pub returns-then-fields : goal.returns-then-fields
-unfolding early_refusal
-returns-then-fields c =
-    rw (
-      (let it : sound (let it : State = let args = c.args in
-          whole_of args.fields args.heard.now args.candidates.now args.echoes.now args.since.now in it) ≡ true = sym c.is_sound.ensures ∙ c.if-not-is_sound.false in it),
-      works (view (let it : State = let args = c.args in
-          whole_of args.fields args.heard.now args.candidates.now args.echoes.now args.since.now in it)) ∙ ap not c.if-fields.true,
-    )
+returns-then-fields c = tested _ _ _ (sym c.is_sound.ensures ∙ c.if-not-is_sound.false) c.if-fields.true refl refl refl
 
 pub returns-then-room-lt-MAX_FRAME : goal.returns-then-room-lt-MAX_FRAME
-unfolding early_refusal
 returns-then-room-lt-MAX_FRAME c =
-    rw (
-      (let it : sound ((let it : State = let args = ((c)).args in
-          whole_of args.fields args.heard.now args.candidates.now args.echoes.now args.since.now in it)) ≡ true = sym c.is_sound.ensures ∙ c.if-not-is_sound.false in it),
-      (let it : works_on (view ((let it : State = let args = ((c)).args in
-          whole_of args.fields args.heard.now args.candidates.now args.echoes.now args.since.now in it))) ≡ true = works (view ((let it : State = let args = ((c)).args in
-          whole_of args.fields args.heard.now args.candidates.now args.echoes.now args.since.now in it))) ∙ ap not c.if-fields.false in it),
-      lt-leb max_frame _ c.if-room-lt-MAX_FRAME.true,
-    )
+    tested _ _ _ (sym c.is_sound.ensures ∙ c.if-not-is_sound.false) c.if-fields.false (lt-leb _ _ c.if-room-lt-MAX_FRAME.true) refl refl
 
 pub returns-then-not-well_formed : goal.returns-then-not-well_formed
-unfolding early_refusal
 returns-then-not-well_formed c =
-    rw (
-      (let it : sound ((let it : State = let args = ((c)).args in
-          whole_of args.fields args.heard.now args.candidates.now args.echoes.now args.since.now in it)) ≡ true = sym c.is_sound.ensures ∙ c.if-not-is_sound.false in it),
-      (let it : works_on (view ((let it : State = let args = ((c)).args in
-          whole_of args.fields args.heard.now args.candidates.now args.echoes.now args.since.now in it))) ≡ true = works (view ((let it : State = let args = ((c)).args in
-          whole_of args.fields args.heard.now args.candidates.now args.echoes.now args.since.now in it))) ∙ ap not c.if-fields.false in it),
-      (let it : leb max_frame ((c)).args.room ≡ true = le-leb _ _ c.if-room-lt-MAX_FRAME.false in it),
-      sym c.well-formed-2.ensures ∙ c.if-not-well_formed.true,
-    )
+    tested _ _ _ (sym c.is_sound.ensures ∙ c.if-not-is_sound.false) c.if-fields.false (le-leb _ _ c.if-room-lt-MAX_FRAME.false)
+    (sym c.well_formed-else-room-lt-MAX_FRAME.ensures ∙ c.if-not-well_formed.true) refl
 
 -- a tray of another round, and one of the state's
 pub returns-then-tray_round-fields : goal.returns-then-tray_round-fields
-unfolding early_refusal
 returns-then-tray_round-fields c =
-    rw (
-      (let it : sound ((let it : State = let args = ((c)).args in
-          whole_of args.fields args.heard.now args.candidates.now args.echoes.now args.since.now in it)) ≡ true = sym c.is_sound.ensures ∙ c.if-not-is_sound.false in it),
-      (let it : works_on (view ((let it : State = let args = ((c)).args in
-          whole_of args.fields args.heard.now args.candidates.now args.echoes.now args.since.now in it))) ≡ true = works (view ((let it : State = let args = ((c)).args in
-          whole_of args.fields args.heard.now args.candidates.now args.echoes.now args.since.now in it))) ∙ ap not c.if-fields.false in it),
-      (let it : leb max_frame ((c)).args.room ≡ true = le-leb _ _ c.if-room-lt-MAX_FRAME.false in it),
-      (let it : well_formed ((((c)))).args.tray.now ≡ true = sym c.well-formed-2.ensures ∙ c.if-not-well_formed.false in it),
-      ne_eqb _ _ (λ e. c.if-tray_round-fields.true (c.tray_round.ensures ∙ e)),
-    )
+    tested _ _ _ (sym c.is_sound.ensures ∙ c.if-not-is_sound.false) c.if-fields.false (le-leb _ _ c.if-room-lt-MAX_FRAME.false)
+    (sym c.well_formed-else-room-lt-MAX_FRAME.ensures ∙ c.if-not-well_formed.false) (ne_eqb _ _ (λ e. c.if-tray_round-fields.true (c.tray_round.ensures ∙ e)))
 
 pub returns-else-tray_round-fields : goal.returns-else-tray_round-fields
-unfolding early_refusal
 returns-else-tray_round-fields c =
-    rw (
-      (let it : sound ((let it : State = let args = ((c)).args in
-          whole_of args.fields args.heard.now args.candidates.now args.echoes.now args.since.now in it)) ≡ true = sym c.is_sound.ensures ∙ c.if-not-is_sound.false in it),
-      (let it : works_on (view ((let it : State = let args = ((c)).args in
-          whole_of args.fields args.heard.now args.candidates.now args.echoes.now args.since.now in it))) ≡ true = works (view ((let it : State = let args = ((c)).args in
-          whole_of args.fields args.heard.now args.candidates.now args.echoes.now args.since.now in it))) ∙ ap not c.if-fields.false in it),
-      (let it : leb max_frame ((c)).args.room ≡ true = le-leb _ _ c.if-room-lt-MAX_FRAME.false in it),
-      (let it : well_formed ((((c)))).args.tray.now ≡ true = sym c.well-formed-2.ensures ∙ c.if-not-well_formed.false in it),
-      eq-eqb _ _ (sym c.tray_round.ensures ∙ c.if-tray_round-fields.false),
-    )
+    tested _ _ _ (sym c.is_sound.ensures ∙ c.if-not-is_sound.false) c.if-fields.false (le-leb _ _ c.if-room-lt-MAX_FRAME.false)
+    (sym c.well_formed-else-room-lt-MAX_FRAME.ensures ∙ c.if-not-well_formed.false) (eq-eqb _ _ (sym c.tray_round.ensures ∙ c.if-tray_round-fields.false))

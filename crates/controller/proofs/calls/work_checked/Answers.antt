@@ -3,19 +3,17 @@
 use Rattle.std.specs.Prelude.{ℕ, Bool, true, false, cond, List, [], refl}
 use Rattle.std.proofs.Math.Bool.{◌&&◌}
 use Rattle.std.proofs.Math.Path.{◌≡◌, ◌∙◌}
-use Rattle.std.proofs.Common.{sym, ap, subst, arith, rules}
+use Rattle.std.proofs.Common.{sym, ap}
 use Rattle.std.proofs.lemmas.Bool.{lt-leb}
 use Rattle.controller.specs.Calls.{Promise}
 use Rattle.controller.specs.Fields.{whole_of, answer_of}
 use Rattle.controller.specs.Laws.State.{rules_heard, sound_rules_lem, since_places}
 use Rattle.controller.specs.Refusals.{senders_fit, heard_fit, lists_fit}
-use Rattle.controller.specs.State.{View, view, sound_list}
+use Rattle.controller.specs.State.{View, view}
 use Rattle.controller.specs.declared.state.Answer.{Answer}
 use Rattle.controller.specs.declared.state.Fields.{Fields}
 use Rattle.controller.specs.declared.state.State.{State}
 use Rattle.controller.specs.declared.state.Worked.{Worked}
-use Rattle.controller.specs.Work.Lists.{in_places}
-use Rattle.wire.specs.Limits.{max_numbers}
 use Rattle.wire.specs.Tray.{entries}
 use Rattle.controller.proofs.Heard.{hearing_fits, hearing_ready, hearing_grown, hearing_recorded, hearing_passed, hearing_promised}
 use Rattle.controller.proofs.Promises.{promise_refused, promise_left, promise_worked, tests_left}
@@ -45,44 +43,36 @@ hear-len-requires c = (c.requires.packed, rules_heard _ (sound_rules_lem _ c.req
 pub work_heard-worked-requires : goal.work_heard-worked-requires
 work_heard-worked-requires c =
     let pre = c.requires in
-    (hearing_ready pre c.hear-len.ensures.0 c.if-len-le-MAX_NUMBERS.true, pre.early, pre.room)
+    (hearing_ready pre c.hear-len.ensures c.if-len-le-MAX_NUMBERS.true, pre.early, pre.room)
 
 pub senders_fit-requires : goal.senders_fit-requires
 senders_fit-requires c = c.requires.packed
 
+pub take_over-requires : goal.take_over-requires
+take_over-requires c = (hearing_grown c.requires c.hear-len.ensures c.if-len-le-MAX_NUMBERS.true, since_places _ c.requires.sound)
+
 pub returns-then-worked-eq0 : goal.returns-then-worked-eq0
 returns-then-worked-eq0 c =
-    let worked = (c) in
-    let at = worked in
-    let pre = at.requires in
-    let heard = at.hear-len.ensures in
-    let grown = hearing_grown pre heard.0 at.if-len-le-MAX_NUMBERS.true in
-    let moved = c.record-new.ensures _ heard.1 grown (since_places _ pre.sound) in
-    promise_worked _ _ _ _ _ _ _ _ _ c.if-worked-eq0.true (hearing_recorded pre heard.0 at.if-len-le-MAX_NUMBERS.true moved)
-    (hearing_promised pre heard.0 at.if-len-le-MAX_NUMBERS.true worked.work_heard-worked.ensures)
+    let over = c.take_over.ensures in
+    rw over.0
+    (promise_worked _ _ _ _ _ _ _ _ _ c.if-worked-eq0.true (hearing_recorded c.requires c.hear-len.ensures c.if-len-le-MAX_NUMBERS.true over.1)
+    (hearing_promised c.requires c.hear-len.ensures c.if-len-le-MAX_NUMBERS.true c.work_heard-worked.ensures))
 
 pub returns-else-worked-eq0 : goal.returns-else-worked-eq0
 returns-else-worked-eq0 c =
-    let fits = lists_fit (view (let it : State = let a = c.args in whole_of a.fields a.heard.now a.candidates.now a.echoes.now a.since.now in it)) (entries c.args.tray.now) in
-    rw (c.put_back.ensures _ c.hear-len.ensures.1)
-    (still_left fits c.args.fields c.args.heard.now c.args.since.now _ c.work_heard-worked.result c.refused_in_place.result
-    (hearing_passed c.requires c.hear-len.ensures.0 c.if-len-le-MAX_NUMBERS.true) c.if-worked-eq0.false
-    (hearing_promised c.requires c.hear-len.ensures.0 c.if-len-le-MAX_NUMBERS.true c.work_heard-worked.ensures) c.refused_in_place.ensures)
+    let a = c.args in
+    let s : State = whole_of a.fields a.heard.now a.candidates.now a.echoes.now a.since.now in
+    still_left (lists_fit (view s) (entries a.tray.now)) a.fields a.heard.now a.since.now _ c.work_heard-worked.result c.refused_in_place.result
+    (hearing_passed c.requires c.hear-len.ensures c.if-len-le-MAX_NUMBERS.true) c.if-worked-eq0.false
+    (hearing_promised c.requires c.hear-len.ensures c.if-len-le-MAX_NUMBERS.true c.work_heard-worked.ensures) c.refused_in_place.ensures
 
 pub returns-then-senders_fit : goal.returns-then-senders_fit
 returns-then-senders_fit c =
-    let v = view (let it : State = let a = c.args in whole_of a.fields a.heard.now a.candidates.now a.echoes.now a.since.now in it) in
-    let es = entries c.args.tray.now in
-    let sent : senders_fit v es ≡ true = sym c.senders_fit.ensures ∙ c.if-senders_fit.true in
-    let both = sym (hearing_fits c.requires c.hear-len.ensures.0) ∙ lt-leb c.hear-len.result max_numbers c.if-len-le-MAX_NUMBERS.false in
-    let many : heard_fit v es ≡ false = second_fails (senders_fit v es) (heard_fit v es) both sent in
-    rw (c.put-back2.ensures _ c.hear-len.ensures.1)
-    (promise_left _ 7 _ _ _ _ _ _ _ _ _ (tests_left c.requires ∙ rw (sent, many)) refl c.refused_in_place-then-senders_fit.ensures)
+    let sent = sym c.senders_fit.ensures ∙ c.if-senders_fit.true in
+    let both = sym (hearing_fits c.requires c.hear-len.ensures) ∙ lt-leb _ _ c.if-len-le-MAX_NUMBERS.false in
+    promise_left _ 7 _ _ _ _ _ _ _ _ _ (tests_left c.requires ∙ rw (sent, second_fails _ _ both sent)) refl c.refused_in_place-then-senders_fit.ensures
 
 pub returns-else-senders_fit : goal.returns-else-senders_fit
 returns-else-senders_fit c =
-    let heard = (c) in
-    let start = heard in
-    let sent = sym c.senders_fit.ensures ∙ c.if-senders_fit.false in
-    rw (c.put-back2.ensures _ heard.hear-len.ensures.1)
-    (promise_left _ 6 _ _ _ _ _ _ _ _ _ (tests_left start.requires ∙ rw sent) refl c.refused_in_place-else-senders_fit.ensures)
+    promise_left _ 6 _ _ _ _ _ _ _ _ _ (tests_left c.requires ∙ rw (sym c.senders_fit.ensures ∙ c.if-senders_fit.false)) refl
+    c.refused_in_place-else-senders_fit.ensures

@@ -37,6 +37,23 @@ pub bounds-sent-place-in-loop-j : goal.bounds-sent-place-in-loop-j
 bounds-sent-place-in-loop-j c =
     omega (arith, place_fits (goal.at.bounds-sent-place-in-loop-j c).After-place_list-place, c.loop-j.invariant.1.opens.weights)
 
+pub loop-j-preserved : goal.loop-j-preserved
+loop-j-preserved c =
+    let a = c.args in
+    let v = c.loop-j in
+    let r = c.place_list-place.result in
+    let few : v.j < max_numbers = omega (arith, ready_few c.requires.ready) in
+    let bytes : Below 256 a.tray.now = λ i. (c.type_inv.tray i).fits in
+    let p = c.if-place-len.len in
+    let longer : ((r ≡ v.len) × (p ≡ v.len + 1)) ⊎ ((r ≢ v.len) × (p ≡ v.len)) =
+    elim c.if-place-len.branch [ then-place-len w ↦ inl (w.if-place-len.true, w.len-is) | else-place-len w ↦ inr (w.if-place-len.false, w.len-is) ] in
+    let note = get_or a.notes.now v.j 0 in
+    let last = c.if-note-ne-NO_FRAME.last in
+    let slot = c.if-note-ne-NO_FRAME.slot in
+    let recalled : ((last ≡ note) × (slot ≡ r)) ⊎ ((last ≡ v.last) × (slot ≡ v.slot)) =
+    elim c.if-note-ne-NO_FRAME.branch [ then-note-ne-NO_FRAME w ↦ inl (w.last-is, w.slot-is) | else-note-ne-NO_FRAME w ↦ inr (w.last-is, w.slot-is) ] in
+    (omega arith, opening_more v.invariant.1 few c.place_list-place.ensures bytes (under_sound c.requires.ready v.j c.loop-j-test.true) longer recalled)
+
 pub returns : goal.returns
 returns c =
     let a = c.args in

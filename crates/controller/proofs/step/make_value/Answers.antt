@@ -9,7 +9,7 @@ pub grow-lists-requires : goal.grow-lists-requires
 grow-lists-requires c = c.requires.0
 
 pub grown-requires : goal.grown-requires
-grown-requires c = (((c)).requires.2, c.grow-lists.ensures.few)
+grown-requires c = (c.requires.2, c.grow-lists.ensures.few)
 
 pub returns : goal.returns
 returns c =
