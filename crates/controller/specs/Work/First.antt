@@ -4,13 +4,13 @@
 --     RoundsSound n i w r  r says whether a record with the places w is sound beside any n rising numbers, where the one at place i is the own one
 --     moved_to l m t w      the places w of the record beside l, moved to beside m: a number that is not in l has the round t
 --     Grown n m            two lists in their stored form, of which the second has all that the first has
-use Rattle.std.specs.Prelude.{ℕ, ◌≤◌, ◌<◌, Bool, true, cond, ◌&&◌, List, [], ◌∷◌, ◌++◌, map, ◌≡◌, ltb, eqb, length, get_or, take, drop}
-use Rattle.wire.specs.Limits.{max_numbers, last_round}
+use Rattle.std.specs.Prelude.{ℕ, Bool, true, cond, ◌&&◌, List, [], ◌∷◌, ◌++◌, map, ◌≡◌, ltb, eqb, length, get_or, drop}
+use Rattle.wire.specs.Limits.{last_round}
 use Rattle.wire.specs.Numbers.{listed}
 use Rattle.wire.specs.declared.frame.Numbers.{Numbers}
 use Rattle.controller.specs.Lists.{mem, Inside, Rising}
 use Rattle.controller.specs.State.{sound_list, sound_beside}
-use Rattle.controller.specs.Work.Lists.{below, in_places}
+use Rattle.controller.specs.Work.Lists.{below}
 
 abbrev pub is_zero : ℕ → Bool
 is_zero t = eqb t 0

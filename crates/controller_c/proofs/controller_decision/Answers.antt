@@ -1,8 +1,6 @@
 -- `controller_c::controller_decision` meets its contract: a sound image is long enough to have the decision.
-use Rattle.std.proofs.Common.{rules, sym, arith}
-use Rattle.std.specs.Prelude.{true}
-use Rattle.std.proofs.Math.Path.{◌≡◌, ◌∙◌}
-use Rattle.controller_c.specs.Image.{sound_image}
+use Rattle.std.proofs.Common.{sym, arith}
+use Rattle.std.proofs.Math.Path.{◌∙◌}
 use Rattle.controller_c.specs.Laws.Image.{sound_image_gives}
 use Rattle.controller_c.proofs.controller_decision.Goals as goal
 

@@ -1,9 +1,6 @@
 -- `controller_c::controller_first_round` meets its contract: behind the record of a sound image there are only zeros.
-use Prim.Native.Nat.{◌+◌}
-use Rattle.std.specs.Prelude.{true}
-use Rattle.std.proofs.Math.Path.{◌≡◌, ◌∙◌}
-use Rattle.std.proofs.Common.{sym, arith, rules}
-use Rattle.controller_c.specs.Image.{sound_image}
+use Rattle.std.proofs.Math.Path.{◌∙◌}
+use Rattle.std.proofs.Common.{sym, arith}
 use Rattle.controller_c.specs.Laws.Image.{sound_image_gives, round_read, round_past}
 use Rattle.controller_c.proofs.controller_first_round.Goals as goal
 

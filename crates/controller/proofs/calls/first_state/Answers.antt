@@ -1,6 +1,6 @@
 -- `controller::calls::first_state` meets its contract: heard is the own number in the first place of an empty list, the other lists are empty.
 use Rattle.std.specs.Prelude.{ℕ, set, replicate}
-use Rattle.std.proofs.Common.{ap, rules}
+use Rattle.std.proofs.Common.{ap}
 use Rattle.wire.specs.Limits.{max_numbers}
 use Rattle.controller.specs.declared.state.State.{State}
 use Rattle.wire.specs.declared.frame.Numbers.{Numbers}

@@ -1,10 +1,10 @@
 -- `controller::calls::start` meets its contract: each test that fails gives `start_refusal` its number; where none does the first state
 -- is sound and its frame is sent.
 use Prim.Native.Nat.{ℕ, ◌≤◌, ◌<◌}
-use Rattle.std.specs.Prelude.{Bool, not, cond, [], eqb, leb, length}
+use Rattle.std.specs.Prelude.{Bool, not, cond, [], eqb, leb}
 use Rattle.std.proofs.Math.Bool.{true, false, ◌&&◌}
 use Rattle.std.proofs.Math.Path.{◌≡◌, refl, ◌∙◌}
-use Rattle.std.proofs.Common.{ap, arith, rules}
+use Rattle.std.proofs.Common.{ap, arith}
 use borrow.Author.Tests.{le-leb, lt-leb, eq-eqb, ne_eqb}
 use Rattle.controller.specs.Laws.State.{view_stored, start_sound, rules_test}
 use Rattle.controller.specs.Refusals.{start_refusal}

@@ -1,7 +1,6 @@
 -- `controller::calls::tray` meets its contract: `work` does on the state's parts what is promised of the state.
 use Rattle.std.specs.Prelude.{List, ℕ}
 use Rattle.std.proofs.Math.Path.{◌≡◌}
-use Rattle.std.proofs.Common.{rules}
 use Rattle.controller.specs.Calls.{TrayPromise}
 use Rattle.controller.specs.declared.state.Answer.{Answer}
 use Rattle.controller.specs.declared.state.State.{State}

@@ -1,5 +1,5 @@
 -- `controller::calls::work` meets its contract: an early refusal is the tray's; else `work_checked` has the tests that are left.
-use Rattle.std.proofs.Common.{sym, rules}
+use Rattle.std.proofs.Common.{sym}
 use Rattle.std.proofs.Math.Path.{◌∙◌}
 use borrow.Author.Tests.{ne_eqb}
 use Rattle.controller.specs.Laws.Work.Calls.{early_refused, early_passed}

@@ -8,7 +8,7 @@ use Rattle.std.proofs.lemmas.Bool.{lt-leb}
 use Rattle.controller.specs.Calls.{Promise}
 use Rattle.controller.specs.Fields.{whole_of, answer_of}
 use Rattle.controller.specs.Laws.State.{rules_heard, sound_rules_lem, since_places}
-use Rattle.controller.specs.Refusals.{senders_fit, heard_fit, lists_fit}
+use Rattle.controller.specs.Refusals.{lists_fit}
 use Rattle.controller.specs.State.{View, view}
 use Rattle.controller.specs.declared.state.Answer.{Answer}
 use Rattle.controller.specs.declared.state.Fields.{Fields}

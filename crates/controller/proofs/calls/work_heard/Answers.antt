@@ -3,7 +3,7 @@ use Prim.Native.Nat.{ℕ, ◌≤◌, ◌<◌}
 use Rattle.std.specs.Prelude.{Bool, true, false, cond, List, [], refl, leb, length}
 use Rattle.std.proofs.Math.Bool.{and-eq-true_iff}
 use Rattle.std.proofs.Math.Path.{◌≡◌, ◌∙◌}
-use Rattle.std.proofs.Common.{sym, ap, arith, rules, leb-true, length-append}
+use Rattle.std.proofs.Common.{sym, ap, arith, leb-true, length-append}
 use Rattle.controller.specs.Fields.{state_of, answer_of}
 use Rattle.controller.specs.Laws.Work.Ready.{ready_short}
 use Rattle.controller.specs.Laws.Rules.{next_sound}

@@ -1,5 +1,5 @@
 -- `controller::calls::zero_state` meets its contract: the three lists are empty.
-use Rattle.std.proofs.Common.{ap, rules}
+use Rattle.std.proofs.Common.{ap}
 use Rattle.std.specs.Prelude.{replicate}
 use Rattle.wire.specs.Limits.{max_numbers}
 use Rattle.controller.specs.declared.state.State.{State}

@@ -7,7 +7,7 @@ use Rattle.std.proofs.Common.{arith, rules, length-set}
 use Rattle.std.proofs.Math.ListN.{get_or}
 use Rattle.std.proofs.Math.Seq.{get_or-set_other}
 use Rattle.controller.specs.Work.Heads.{lesser_of}
-use Rattle.controller.specs.Laws.Work.Tree.{Node, node_set, node_made}
+use Rattle.controller.specs.Laws.Work.Tree.{node_set, node_made}
 use Rattle.controller.proofs.heads.build.Invariants.{Building}
 use Rattle.controller.proofs.heads.build.Goals as goal
 

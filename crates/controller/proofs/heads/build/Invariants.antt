@@ -1,13 +1,9 @@
 -- `controller::heads::build` meets its contract: the nodes from i on are made, each from two nodes behind it, which stay as they are.
-use Prim.Native.Nat.{ℕ, ◌+◌, ◌-◌, ◌*◌, ◌≤◌, ◌<◌}
-use Rattle.std.specs.Prelude.{List, refl, length, set}
-use Rattle.std.proofs.Math.Path.{◌≡◌, ◌∙◌}
-use Rattle.std.proofs.Math.Decide.{ℕ_discrete}
-use Rattle.std.proofs.Common.{arith, rules, length-set}
+use Prim.Native.Nat.{ℕ, ◌≤◌, ◌<◌}
+use Rattle.std.specs.Prelude.{List, length}
+use Rattle.std.proofs.Math.Path.{◌≡◌}
 use Rattle.std.proofs.Math.ListN.{get_or}
-use Rattle.std.proofs.Math.Seq.{get_or-set_other}
-use Rattle.controller.specs.Work.Heads.{lesser_of}
-use Rattle.controller.specs.Laws.Work.Tree.{Node, node_set, node_made}
+use Rattle.controller.specs.Laws.Work.Tree.{Node}
 use Rattle.controller.proofs.heads.build.Given as goal
 
 -- the nodes from i on are made of the leaves, which are as in the tree t₀

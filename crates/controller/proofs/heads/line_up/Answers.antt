@@ -1,11 +1,11 @@
 -- `controller::heads::line_up` meets its contract: the lists gone through stand at their first numbers, and `build` leaves the leaves as they are.
-use Prim.Native.Nat.{ℕ, ◌+◌, ◌-◌, ◌≤◌, ◌<◌}
+use Prim.Native.Nat.{ℕ, ◌+◌, ◌≤◌, ◌<◌}
 use Rattle.std.specs.Prelude.{List, set}
-use Rattle.std.proofs.Math.Path.{◌≡◌, ◌∙◌}
-use Rattle.std.proofs.Common.{sym, arith, rules}
+use Rattle.std.proofs.Math.Path.{◌≡◌}
+use Rattle.std.proofs.Common.{arith}
 use Rattle.std.proofs.Math.ListN.{get_or}
 use Rattle.controller.specs.Work.Opened.{end_mark, max_lists, open_list}
-use Rattle.controller.specs.Work.Heads.{key_of, Roomy, Stands}
+use Rattle.controller.specs.Work.Heads.{key_of, Stands}
 use Rattle.controller.specs.Laws.Work.Heads.{stands_first, room_set, heads_set}
 use Rattle.controller.proofs.heads.line_up.Invariants.{Lining}
 use Rattle.controller.proofs.heads.line_up.Goals as goal

@@ -1,6 +1,5 @@
 -- `controller::heads::sibling` meets its contract: its test is that of the definition.
 use Prim.Native.Nat.{◌%◌}
-use Rattle.std.proofs.Common.{rules}
 use borrow.Author.Tests.{eq-eqb, ne_eqb}
 use Rattle.controller.proofs.heads.sibling.Goals as goal
 

@@ -4,7 +4,7 @@ use Rattle.std.specs.Prelude.{Bool, cond, List, [], take, drop}
 use Rattle.std.proofs.Math.Bool.{true, false}
 use Rattle.std.proofs.Math.Option.{Option, some, none}
 use Rattle.std.proofs.Math.Path.{◌≡◌, refl, ◌∙◌}
-use Rattle.std.proofs.Common.{sym, ap, arith, rules}
+use Rattle.std.proofs.Common.{sym, ap, arith}
 use Rattle.std.proofs.Math.Decide.{dec_lt}
 use borrow.Author.Tests.{leb-true}
 use Rattle.std.proofs.Math.Dec.{leb}
@@ -15,8 +15,6 @@ use Rattle.wire.specs.Laws.Frame.{read_numbers}
 use Rattle.wire.specs.Laws.Tray.{part_byte}
 use Rattle.wire.specs.Laws.Words.{words_length}
 use Rattle.wire.specs.Limits.{frame_header, number_width}
-use Rattle.wire.proofs.NoPlace.{no_place}
-use Rattle.wire.specs.Found.{meaning}
 use Rattle.wire.specs.Notes.{found_by}
 use Rattle.wire.specs.Laws.Notes.{found_small}
 use Rattle.wire.specs.Tray.{part}

@@ -1,5 +1,5 @@
 -- `controller::opened::open_lists` meets its contract: the lists of the notes gone through are open, and the open ones count each number as those do.
-use Rattle.std.proofs.Common.{ℕ, ◌+◌, ◌≤◌, ◌<◌, ◌≡◌, ◌≢◌, ◌⊎◌, ◌∙◌, get_or, inl, inr, ap, arith, rules}
+use Rattle.std.proofs.Common.{ℕ, ◌+◌, ◌≤◌, ◌<◌, ◌≡◌, ◌≢◌, ◌⊎◌, ◌∙◌, get_or, inl, inr, ap, arith}
 use Rattle.wire.specs.Limits.{max_numbers}
 use Rattle.wire.specs.Words.{Below}
 use Rattle.controller.specs.Laws.Work.Opened.{under_sound, sent_few, own_sized, opening_start, opening_placeable, opening_place, opening_more}

@@ -1,7 +1,7 @@
 -- `controller::opened::place_list` meets its contract: with no frame the own list is received, which is open; frames with the same bytes have the same list;
 -- and a list with the own numbers is the own one. Any other is opened behind the open ones.
 use Rattle.std.specs.Prelude.{ℕ, Bool, true, cond, List, refl, take}
-use Rattle.std.proofs.Common.{true≢false, inl, inr, sym, ap, subst, arith, rules}
+use Rattle.std.proofs.Common.{true≢false, inl, inr, sym, ap, subst, arith}
 use Rattle.std.proofs.Math.Logic.{◌≢◌}
 use Rattle.std.proofs.Math.Path.{◌≡◌, ◌∙◌}
 use borrow.Author.Tests.{ne_eqb}

@@ -1,12 +1,8 @@
 -- `controller::own::count_list` meets its contract: after j turns so many of the first j lists are the frame's.
-use Prim.Native.Nat.{ℕ, ◌+◌, ◌-◌, ◌≤◌, ◌<◌}
+use Prim.Native.Nat.{ℕ, ◌-◌, ◌≤◌}
 use Rattle.std.specs.Prelude.{List}
-use Rattle.std.proofs.Common.{inl, inr, arith, rules}
-use Rattle.std.proofs.Math.Path.{◌≡◌}
 use Rattle.std.proofs.Math.ListN.{get_or}
 use Rattle.wire.specs.Frame.{content}
-use Rattle.wire.specs.Limits.{max_numbers}
-use Rattle.controller.specs.Laws.Work.Own.{agrees_none, agrees_more, agrees_same}
 use Rattle.controller.specs.Received.{list_in}
 use Rattle.controller.specs.Work.Opened.{list_under}
 use Rattle.controller.specs.Work.Own.{Agrees}

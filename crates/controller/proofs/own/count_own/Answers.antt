@@ -1,7 +1,6 @@
 -- `controller::own::count_own` meets its contract: the frame that is written has the own list, so that whoever sent a frame with its list sent that one.
-use Prim.Native.Nat.{◌≤◌}
 use Rattle.std.proofs.Math.Nat.{sub-zero}
-use Rattle.std.proofs.Common.{arith, rules}
+use Rattle.std.proofs.Common.{arith}
 use Rattle.controller.proofs.own.count_own.Goals as goal
 
 pub write_own-len-requires : goal.write_own-len-requires

@@ -2,7 +2,7 @@
 -- equal bytes list the same.
 use Prim.Native.Nat.{ℕ, ◌+◌, ◌-◌, ◌/◌, ◌%◌, ◌≤◌}
 use Rattle.std.specs.Prelude.{Bool, true, false, cond, List, [], refl, leb, eqb, length, take, drop}
-use Rattle.std.proofs.Common.{true≢false, sym, ap, arith, rules, length-take}
+use Rattle.std.proofs.Common.{true≢false, sym, ap, arith, length-take}
 use Rattle.std.proofs.Math.Logic.{◌≢◌}
 use Rattle.std.proofs.Math.Path.{◌≡◌, ◌∙◌}
 use borrow.Author.Tests.{le-leb, eqb-true, eq-eqb, ne_eqb}

@@ -2,7 +2,7 @@
 -- sound; so it reads as its content, whose list is the own one.
 use Prim.Native.Nat.{ℕ, ◌-◌, ◌≤◌}
 use Rattle.std.specs.Prelude.{true, cond, List, refl, eqb, length, drop}
-use Rattle.std.proofs.Common.{inl, inr, ap, arith, rules}
+use Rattle.std.proofs.Common.{ap, arith}
 use Rattle.std.proofs.Math.Path.{◌≡◌, sym, ◌∙◌}
 use Rattle.std.proofs.Math.Nat.{sub-zero}
 use borrow.Author.Tests.{eq-eqb, ne_eqb}

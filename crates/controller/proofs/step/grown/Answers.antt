@@ -1,6 +1,5 @@
 -- `controller::step::grown` meets its contract: lists that fit, the bit and what (c) makes of them are the state of `make_value`;
 -- lists that do not leave the state as it was.
-use Rattle.std.proofs.Common.{rules}
 use Rattle.controller.specs.Laws.Work.Step.{value_made, value_refused}
 use Rattle.controller.proofs.step.grown.Goals as goal
 

@@ -1,5 +1,4 @@
 -- `controller::step::make_roster` meets its contract: the roster, and all other fields as they were, are the state of `make_roster`.
-use Rattle.std.proofs.Common.{arith}
 use Rattle.controller.specs.Laws.Rules.{kind_first}
 use Rattle.controller.specs.Laws.State.{rules_give}
 use Rattle.controller.specs.Laws.Work.Step.{roster_made}

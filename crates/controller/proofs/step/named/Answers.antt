@@ -1,7 +1,7 @@
 -- `controller::step::named` meets its contract: each branch gives the test of `named_state` its value.
 use Rattle.std.specs.Prelude.{true, false, leb}
 use Rattle.std.proofs.Math.Path.{◌≡◌}
-use Rattle.std.proofs.Common.{rules, le-leb}
+use Rattle.std.proofs.Common.{le-leb}
 use Rattle.std.proofs.lemmas.Bool.{lt-leb}
 use Rattle.controller.specs.Work.Step.{named_state}
 use Rattle.controller.proofs.step.named.Goals as goal

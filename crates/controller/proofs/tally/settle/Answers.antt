@@ -2,7 +2,7 @@
 -- else it is put in at its place, or is one too many.
 use Prim.Native.Nat.{ℕ, ◌*◌, ◌≤◌, ◌<◌}
 use Rattle.std.specs.Prelude.{Bool, false, List, length, take}
-use Rattle.std.proofs.Common.{sym, arith, rules}
+use Rattle.std.proofs.Common.{sym, arith}
 use Rattle.std.proofs.Math.Path.{◌≡◌, ◌∙◌}
 use Rattle.controller.specs.Lists.{In, mem}
 use Rattle.controller.specs.Laws.Lists.{mem_in, mem_out}

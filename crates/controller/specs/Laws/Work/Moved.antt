@@ -1,5 +1,5 @@
 -- Laws of the record as it is moved to beside those heard after a tray: its places are those that the rules' words give.
-use Prim.Native.Nat.{ℕ, ◌+◌, ◌-◌, ◌≤◌, ◌<◌}
+use Prim.Native.Nat.{ℕ, ◌-◌, ◌≤◌, ◌<◌}
 use Rattle.std.specs.Prelude.{true, ◌≡◌, refl, get_or, take}
 use Rattle.std.proofs.Math.Bool.{cond}
 use mathlib.Core.List.Memᴰ

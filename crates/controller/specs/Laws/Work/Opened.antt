@@ -27,7 +27,6 @@ use Rattle.controller.specs.Laws.Work.Ready.{ready_list, ready_size}
 use Rattle.controller.specs.Laws.Work.Tally.{nth_list, list_at_sound, below_in, below_take, echoes_sized}
 use Rattle.controller.specs.Laws.Work.Total.{total_same, total_grows, total_has, count_total}
 use Rattle.controller.specs.declared.state.Fields.{Fields}
-use Rattle.controller.specs.declared.state.State.{State}
 
 -- what weighs nothing counts for nothing
 nothing : (t : Bool) (k : ℕ) → k ≡ 0 → cond t k 0 ≡ 0

@@ -1,9 +1,8 @@
 -- `controller_c::image::is_sound_image` meets its contract: the two tests are those of `sound_image`, in its order.
-use Rattle.std.proofs.Common.{rules, sym, ap}
-use Rattle.std.proofs.Math.Path.{◌≡◌, ◌∙◌}
-use Rattle.std.specs.Prelude.{length}
+use Rattle.std.proofs.Common.{sym, ap}
+use Rattle.std.proofs.Math.Path.{◌∙◌}
 use Rattle.controller.specs.State.{sound}
-use Rattle.controller_c.specs.Image.{image_bytes, sound_image}
+use Rattle.controller_c.specs.Image.{sound_image}
 use Rattle.controller_c.specs.Laws.Image.{shaped_length}
 use Rattle.controller_c.proofs.image.is_sound_image.Goals as goal
 
