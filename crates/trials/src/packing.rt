@@ -60,11 +60,7 @@ fn put_word(bytes: &mut [u8; TRAY_ROOM], at: usize, x: u32)
 fn put_bytes(bytes: &mut [u8; TRAY_ROOM], at: usize, frame: &[u8; MAX_FRAME], len: usize)
     requires { (len ≤ max_frame) × (at + len ≤ 824) }
 {
-    let mut i = 0;
-    while i < len {
-        bytes[at + i] = frame[i];
-        i += 1;
-    }
+    bytes[at..at + len].copy_from_slice(&frame[0..len]);
 }
 
 // How many entries a packet takes.
