@@ -1,9 +1,7 @@
 -- What a directory has of the tray that it is of: its entries' senders and places, and how many there are.
-use Prim.Native.Nat.{ℕ, ◌/◌}
 use Rattle.std.specs.Prelude.{true, length}
-use mathlib.Core.List.{List}
 use Rattle.std.proofs.Math.Path.{◌≡◌, ap, ◌∙◌}
-use Rattle.std.proofs.Common.{arith}
+use Rattle.std.proofs.Common.{arith, ℕ, ◌/◌, List}
 use Rattle.wire.specs.Laws.Tray.{directory_length}
 use Rattle.wire.specs.Limits.{entry_width, offset_at}
 use Rattle.wire.specs.Tray.{well_formed, directory, entry_count, word_of, sender, place}

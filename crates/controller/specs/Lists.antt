@@ -8,8 +8,9 @@
 --     insert_all m l    the rising list l with each of m in its place, once
 --     NoRepeats l      l has no number twice
 --     Rising l         l rises strictly
+use Rattle.std.proofs.Common.{List, [], ◌∷◌}
 use Rattle.std.specs.Prelude.{ℕ, suc, ◌<◌, Bool, false, cond, ◌||◌, eqb, ltb}
-use mathlib.Core.List.{List, [], ◌∷◌, Memᴰ}
+use mathlib.Core.List.{Memᴰ}
 
 abbrev pub In : ℕ → List ℕ → Type 0
 In x l = Memᴰ x l

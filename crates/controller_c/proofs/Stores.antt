@@ -3,13 +3,11 @@
 --     sets_whole      one as long as the list is all that is left of it
 --     sets_behind     one behind the first part of a list leaves that part
 --     sets_over       one as long as the part of a list that it starts with takes its place
-use Prim.Native.Nat.{ℕ, zero, suc, ◌+◌, ◌≤◌}
-use mathlib.Core.List.{List, [], ◌∷◌, ◌++◌, append-nil}
+use Rattle.std.proofs.lemmas.List.Edits.{sets, sets-eq}
 use Rattle.std.proofs.Math.Path.{◌≡◌, ◌∙◌}
 use Rattle.std.specs.Prelude.{refl, length, set, drop}
-use Rattle.std.proofs.Common.{ap, arith}
+use Rattle.std.proofs.Common.{ap, arith, ℕ, zero, suc, ◌+◌, ◌≤◌, List, [], ◌∷◌, ◌++◌, append-nil}
 use Rattle.std.proofs.Math.ListN.{drop_of_length-le}
-use lib.Seq.{sets, sets-eq}
 use Rattle.wire.specs.Laws.Stores.{sets_join}
 
 pub join_at : (l : List ℕ) (i k : ℕ) (vs ws : List ℕ) → k ≡ i + length vs → sets (sets l i vs) k ws ≡ sets l i (vs ++ ws)

@@ -9,8 +9,9 @@
 --     headers n       how many frames are sent at most where nothing is from round 3 + 3n on; full_lists n, how many of these have a list
 --     link_limit n     the bytes of so many headers, and of so many lists of n numbers
 --     LinkUse n c     the claim, with n = 64 of every controller, and of those in a run of n controllers with this n
+use Rattle.std.proofs.Common.{List, ◌∷◌, map}
 use Rattle.std.specs.Prelude.{ℕ, ◌+◌, ◌*◌, ◌≤◌, cond, eqb, ltb}
-use mathlib.Core.List.{List, ◌∷◌, map, sum}
+use mathlib.Core.List.{sum}
 use Rattle.controller.specs.Bytes.{frame_header, number_width, kind_of, max_count}
 use Rattle.controller.specs.declared.state.Answer.{Answer}
 use Rattle.run.specs.Run.{TrayCall, Controller}

@@ -9,8 +9,9 @@
 --     Network l f              a run but for how many are faulty: proper ones l and faulty ones f, any number of them
 --     Run                      a run: a network with 3f < n
 -- Members of lists of records are given by `Member`, the library's membership.
+use Rattle.std.proofs.Common.{List, [], ◌∷◌, ◌++◌, map}
 use Rattle.std.specs.Prelude.{ℕ, ◌+◌, ◌*◌, ◌≤◌, ◌<◌, ◌⊎◌, ◌≢◌, true, ◌≡◌, length, take}
-use mathlib.Core.List.{List, [], ◌∷◌, ◌++◌, map, Memᴰ}
+use mathlib.Core.List.{Memᴰ}
 use contract.Lifetimes.{Lfts}
 use Rattle.std.specs.Borrow.{Bor, MutBor}
 use Rattle.controller.specs.Bytes.{Entry, well_formed, round_of, entries}

@@ -1,11 +1,10 @@
 -- Laws of when each number was first heard: a record says the same of a number once it is heard, and what is sound stays sound.
 use Rattle.std.specs.Prelude.{ℕ, ◌≤◌, ◌<◌, Bool, true, cond, List, [], ◌∷◌, map, ◌≢◌, ◌≡◌, refl, length, take}
-use Rattle.std.proofs.Common.{true≢false, sym, ◌∙◌, arith}
+use Rattle.std.proofs.Common.{true≢false, sym, ◌∙◌, arith, eq-eqb, ne_eqb, le-leb, lt-ltb}
 use Rattle.std.proofs.Math.Bool.{and-eq-true_iff}
 use mathlib.Core.List.Memᴰ
 use Rattle.std.proofs.Math.Logic.{inl, inr}
 use Rattle.std.proofs.Math.Decide.{ℕ_discrete}
-use borrow.Author.Tests.{eq-eqb, ne_eqb, le-leb, lt-ltb}
 use Rattle.std.proofs.Math.ListN.{length-map}
 use Rattle.wire.specs.Laws.Numbers.{listed_stored}
 use Rattle.wire.specs.Limits.{last_round}

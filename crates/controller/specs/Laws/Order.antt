@@ -3,10 +3,10 @@ use Rattle.std.specs.Prelude.{ℕ, true, ◌&&◌, ◌≡◌, eqb, length}
 use Rattle.std.proofs.Math.Bool.{cond}
 use mathlib.Core.List.Memᴰ
 use mathlib.Core.List.Permᴰ
-use mathlib.Core.List.{List, Permᴰ}
+use mathlib.Core.List.{Permᴰ}
 use Rattle.std.proofs.Math.Logic.{inl, inr}
 use Rattle.std.proofs.Math.Option.{some}
-use Rattle.std.proofs.Common.{sym, ap, ◌∙◌}
+use Rattle.std.proofs.Common.{sym, ap, ◌∙◌, List}
 use Rattle.wire.specs.Laws.Found.{under_order}
 use Rattle.wire.specs.Tray.{Entry, well_formed, round_of, entries}
 use Rattle.controller.specs.Lists.{In, Rising, mem, insert_all}

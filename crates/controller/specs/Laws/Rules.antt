@@ -1,12 +1,11 @@
 -- Laws of one step: which bullet makes which round, each field of the next state, and that a step that is not refused keeps soundness.
 use Rattle.std.specs.Prelude.{ℕ, ◌+◌, ◌*◌, ◌-◌, ◌/◌, ◌%◌, ◌<◌, ◌≤◌, Bool, true, false, cond, ◌&&◌, List, ◌≡◌, refl, leb, ltb}
 use Rattle.std.proofs.Math.Bool.{not, and-false, and-eq-true_iff}
-use Rattle.std.proofs.Common.{true≢false, sym, ap, ◌∙◌, arith}
+use Rattle.std.proofs.Common.{true≢false, sym, ap, ◌∙◌, arith, leb-true, le-leb, ne_eqb}
 use mathlib.Core.List.Memᴰ
 use Rattle.std.proofs.Math.Logic.{inl, inr}
 use Rattle.std.proofs.Math.Option.{some}
 use Rattle.std.proofs.Math.Decide.{ℕ_discrete}
-use borrow.Author.Tests.{leb-true, le-leb, ne_eqb}
 use Rattle.std.proofs.Math.Dec.{eqb}
 use Rattle.std.proofs.Math.ListN.{length}
 use Rattle.wire.specs.Frame.{kind_of, bit_fits}

@@ -1,7 +1,6 @@
 -- `controller_c::controller_heard_number` meets its contract: behind the numbers of a sound image's heard there are only zeros.
-use Prim.Native.Nat.{ℕ, ◌+◌, ◌*◌, ◌<◌, ◌≤◌}
 use Rattle.std.specs.Prelude.{List}
-use Rattle.std.proofs.Common.{inl, inr, sym}
+use Rattle.std.proofs.Common.{inl, inr, sym, ℕ, ◌+◌, ◌*◌, ◌<◌, ◌≤◌}
 use Rattle.std.proofs.Math.Path.{◌≡◌, ◌∙◌}
 use Rattle.std.proofs.Math.ListN.{get_or}
 use Rattle.wire.specs.Limits.{max_numbers, number_width}

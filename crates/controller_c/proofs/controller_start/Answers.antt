@@ -1,7 +1,6 @@
 -- `controller_c::controller_start` meets its contract: with an image of the right length the refusal is that of the controller's start,
 -- whose answer is handed over in parts.
-use Rattle.std.proofs.Common.{rules}
-use borrow.Author.Tests.{eq-eqb, ne_eqb}
+use Rattle.std.proofs.Common.{rules, eq-eqb, ne_eqb}
 use Rattle.std.specs.Prelude.{true}
 use Rattle.std.proofs.Math.Path.{◌≡◌}
 use Rattle.controller.specs.State.{sound}

@@ -1,7 +1,6 @@
 -- `controller_c::controller_tray` meets its contract: an image of the right shape leaves the refusal to the controller's call in place,
 -- whose answer is handed over, and what that leaves out did not change.
-use Rattle.std.proofs.Common.{sym, ap}
-use borrow.Author.Tests.{eq-eqb, ne_eqb}
+use Rattle.std.proofs.Common.{sym, ap, eq-eqb, ne_eqb}
 use Rattle.std.specs.Prelude.{ℕ, true, List, refl}
 use Rattle.std.proofs.Math.Path.{◌≡◌, ◌∙◌}
 use Rattle.controller.specs.Calls.{TrayPromise}

@@ -1,6 +1,5 @@
 -- `controller_c::hand_over` meets its contract: the state is laid out exactly if the answer's refusal is 0.
-use Rattle.std.proofs.Common.{rules}
-use borrow.Author.Tests.{eq-eqb, ne_eqb}
+use Rattle.std.proofs.Common.{rules, eq-eqb, ne_eqb}
 use Rattle.controller_c.proofs.hand_over.Goals as goal
 
 pub lay_out-requires : goal.lay_out-requires

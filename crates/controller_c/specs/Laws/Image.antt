@@ -4,10 +4,8 @@
 --     laid_out-sound          the image of a sound state is sound
 use Rattle.std.specs.Prelude.{ℕ, zero, suc, ◌+◌, ◌*◌, ◌-◌, ◌≤◌, ◌<◌, true, ◌≡◌, eqb, take, drop, replicate}
 use Rattle.std.proofs.Math.Bool.{and-eq-true_iff}
-use mathlib.Core.List.{List, [], ◌∷◌, ◌++◌, append_assoc}
 use Rattle.std.proofs.Math.Path.{refl, sym, ap}
-use Rattle.std.proofs.Common.{◌∙◌, eqb-true, eq-eqb, length-drop, length-take, take-append-drop, take_at, get_or-drop}
-use native.Mathlib.Omega.{arith}
+use Rattle.std.proofs.Common.{◌∙◌, eqb-true, eq-eqb, length-drop, length-take, take-append-drop, take_at, get_or-drop, List, [], ◌∷◌, ◌++◌, append_assoc, arith}
 use Rattle.std.proofs.Math.ListN.{get_or-eq_default, length, get_or, length-append}
 use Rattle.std.proofs.lemmas.List.{length-replicate, drop-append-le}
 use Rattle.std.proofs.Math.Seq.{slice, drop_at, length-take-le, get_or-take}

@@ -1,9 +1,9 @@
 -- Demand 3: every run has the outcome that document 01 claims. The run is steps of the published rules, for which the protocol gives the deadline,
 -- agreement, validity and the lists' bounds; a decided state stays, whatever the trays.
+use Rattle.std.proofs.lemmas.Bool.{eqb-false}
 use Rattle.std.specs.Prelude.{ℕ, ◌+◌, ◌*◌, ◌≤◌, true, List, ◌⊎◌, ◌≢◌, ◌≡◌, refl, leb, length}
 use Rattle.std.proofs.Common.{inl, inr, ◌∙◌, arith, length-append}
 use Rattle.std.proofs.Math.Path.{sym, ap, subst}
-use borrow.Author.Tests.{eqb-false}
 use Rattle.controller.specs.Bytes.{max_frame, Entry, entries}
 use Rattle.controller.specs.Lists.{In}
 use Rattle.controller.specs.State.{View, view, undecided}

@@ -5,16 +5,14 @@
 --     reached t u    what may have been sent in round t once round u is made
 --     allowed s      what may have been sent in all once a call returns s: in the rounds up to that of s, or in all of them if s has decided
 --     link_use       the theorem; run_link_use, of a controller in a run
-use Prim.Native.Nat.{ℕ, zero, suc, ◌+◌, ◌*◌, ◌≤◌}
 use Rattle.std.specs.Prelude.{Bool, true, false, ◌≢◌, ◌≡◌, refl, eqb, leb, ltb, length}
 use Rattle.std.proofs.Math.Bool.{cond}
-use Rattle.std.proofs.Common.{true≢false, inl, inr, sym, ◌∙◌, eq-eqb, ne_eqb, le-leb}
+use Rattle.std.proofs.Common.{true≢false, inl, inr, sym, ◌∙◌, eq-eqb, ne_eqb, le-leb, ℕ, zero, suc, ◌+◌, ◌*◌, ◌≤◌, List, [], ◌∷◌, map, arith}
 use mathlib.Core.List.Memᴰ
-use mathlib.Core.List.{List, [], ◌∷◌, map, sum}
+use mathlib.Core.List.{sum}
 use Rattle.std.proofs.Math.Path.{ap, subst}
 use Rattle.std.proofs.Math.Decide.{ℕ_discrete, dec_le, le_ind}
 use Rattle.std.proofs.Math.Nat.{suc-mul}
-use native.Mathlib.Omega.{arith}
 use Rattle.std.proofs.lemmas.Bool.{lt-leb}
 use Rattle.controller.specs.Bytes.{frame_header, number_width, max_numbers, last_round, kind_of, max_count}
 use Rattle.controller.specs.Calls.{sent_bytes}

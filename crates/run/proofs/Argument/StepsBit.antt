@@ -4,14 +4,14 @@
 --     bits S            the bit instance
 --     bit_rules S K     it keeps the rules of a bit instance
 --     first_value S K   the first value sent is the bit brought in
-use Prim.Native.Nat.{ℕ, zero, suc, ◌+◌, ◌≤◌, ◌<◌, zero-le}
+use Rattle.std.proofs.lemmas.Bool.{eqb-false, not-true, not-false}
 use Rattle.std.specs.Prelude.{Bool, ◌&&◌, List, [], ◌∷◌, ◌⊎◌, ◌↔◌, ◌≢◌, ◌≡◌, ltb, length}
 use Rattle.std.proofs.Math.Bool.{true, false, not, cond, and-eq-true_iff}
-use Rattle.std.proofs.Common.{true≢false, inl, inr, sym, ap, ◌∙◌, arith}
+use Rattle.std.proofs.Common.{true≢false, inl, inr, sym, ap, ◌∙◌, arith, ℕ, zero, suc, ◌+◌, ◌≤◌, ◌<◌, zero-le, leb-true, le-leb, ltb-true, lt-ltb}
+use Rattle.std.proofs.Common.{eq-eqb, eqb-true, ne_eqb}
 use mathlib.Core.List.Memᴰ
 use Rattle.std.proofs.Math.Option.{Option, some, none}
 use Rattle.std.proofs.Math.Path.{refl}
-use borrow.Author.Tests.{leb-true, le-leb, ltb-true, lt-ltb, eq-eqb, eqb-true, eqb-false, ne_eqb, not-true, not-false}
 use Rattle.std.proofs.Math.Dec.{eqb, leb}
 use Rattle.controller.specs.Bytes.{Content, kind_of, kind_said, bit_said}
 use Rattle.controller.specs.Lists.{In, count_if}

@@ -5,12 +5,12 @@
 --     had_from S p t s      the frame that p has from s in its tray of round t
 --     rotation S           the rotation; at work are those who have not decided
 --     rotation_rules S K   it keeps the rules of a rotation
+use Rattle.std.proofs.lemmas.Bool.{not-true, not-false}
 use Rattle.std.specs.Prelude.{ℕ, zero, suc, ◌+◌, ◌*◌, ◌<◌, ◌≤◌, Bool, true, false, cond, ◌&&◌, List, [], ◌⊎◌, ◌↔◌, ◌≡◌, leb, ltb, length, get_or}
 use Rattle.std.proofs.Math.Bool.{not, and-true, and-false}
-use Rattle.std.proofs.Common.{true≢false, inl, inr, ◌∙◌, subst, arith}
+use Rattle.std.proofs.Common.{true≢false, inl, inr, ◌∙◌, subst, arith, leb-true, le-leb, ne_eqb}
 use Rattle.std.proofs.Math.Option.{Option, some}
 use Rattle.std.proofs.Math.Path.{refl, sym, ap}
-use borrow.Author.Tests.{leb-true, le-leb, ne_eqb, not-true, not-false}
 use Rattle.controller.specs.Bytes.{Content, kind_of, max_count}
 use Rattle.controller.specs.Lists.{In, Rising}
 use Rattle.controller.specs.Thirds.{third, two_thirds}

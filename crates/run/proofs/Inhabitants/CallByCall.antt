@@ -6,15 +6,15 @@
 --     Packs n t es             that tray is well packed and has just these entries, none of them under 0 or n
 --     total s is               what the lengths that the calls on the inputs is return add up to, where the first is handed the state s
 --     LeadsTo n t es h c e s   the call with s on that tray is worked: it sends the longest frame of round t + 1 and leaves a state with the lists h, c, e
+use Rattle.std.proofs.lemmas.Bool.{not-true, lt-leb}
 use Rattle.std.specs.Prelude.{ℕ, suc, ◌+◌, ◌*◌, ◌≤◌, ◌<◌, true, false, not, cond, ◌&&◌, ◌||◌, ◌≡◌, refl, length, replicate}
 use Rattle.std.proofs.Math.Bool.{and-eq-true_iff, and-false, or-true}
 use mathlib.Core.List.Memᴰ
-use mathlib.Core.List.{List, [], ◌∷◌, map, sum}
-use Rattle.std.proofs.Common.{inl, inr, ◌∙◌, arith}
+use mathlib.Core.List.{sum}
+use Rattle.std.proofs.Common.{inl, inr, ◌∙◌, arith, List, [], ◌∷◌, map}
 use Rattle.std.proofs.Math.Option.{some}
 use Rattle.std.proofs.Math.Path.{sym, ap, subst}
 use Rattle.std.proofs.Math.Decide.{ℕ_discrete}
-use borrow.Author.Tests.{not-true, lt-leb}
 use Rattle.controller.specs.Bytes.{max_frame, max_numbers, last_round, content, one, under, under_one}
 use Rattle.controller.specs.Bytes.{Entry, round_of, entry_count, well_formed, entries}
 use Rattle.controller.specs.Lists.{In, Rising, mem, count_if}

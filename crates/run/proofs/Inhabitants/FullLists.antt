@@ -12,8 +12,8 @@
 -- 64. In phase 1 the speakers list the strangers, a third: these are echoed. After that the speakers send void frames and the others are silent, so the own
 -- list has 42 voices, more than a third and less than two thirds: the strangers are echoed again in each phase and never become candidates.
 use Rattle.std.specs.Prelude.{ℕ, zero, suc, ◌+◌, ◌≤◌, ◌<◌, Bool, true, false, not, cond, ◌&&◌, ◌||◌, ◌≡◌, refl, length}
-use mathlib.Core.List.{List, [], ◌∷◌, sum}
-use Rattle.std.proofs.Common.{inl, inr, sym, ◌∙◌, subst, arith}
+use mathlib.Core.List.{sum}
+use Rattle.std.proofs.Common.{inl, inr, sym, ◌∙◌, subst, arith, List, [], ◌∷◌}
 use Rattle.controller.specs.Bytes.{max_numbers, Entry, round_of, entry_count, sender, well_formed, part, entries, kind_of, chosen_by, said_by}
 use Rattle.controller.specs.Bytes.{bit_fits, max_count, length_fits, round_fits, head_fits, body_fits, read_refusal, content, frame_bytes}
 use Rattle.controller.specs.Lists.{Rising, mem, count_if}

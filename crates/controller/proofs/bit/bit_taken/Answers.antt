@@ -1,8 +1,8 @@
 -- `controller::bit::bit_taken` meets its contract: each branch gives the tests of `bit_taken` their values; round 3 is the first
 -- with a phase before it, and the frame sent before a value is a turn.
+use Rattle.std.proofs.lemmas.Bool.{lt-leb}
 use Rattle.std.specs.Prelude.{ℕ, ◌+◌, ◌/◌, ◌%◌, ◌≤◌, ◌<◌, true, ◌≡◌, refl, ltb}
-use Rattle.std.proofs.Common.{arith}
-use borrow.Author.Tests.{le-leb, lt-leb, lt-ltb, le-ltb, eq-eqb, ne_eqb}
+use Rattle.std.proofs.Common.{arith, le-leb, lt-ltb, le-ltb, eq-eqb, ne_eqb}
 use Rattle.controller.specs.Bit.{bit_taken}
 use Rattle.controller.specs.Laws.Rules.{kind_later}
 use Rattle.wire.specs.Frame.{kind_of}

@@ -1,9 +1,8 @@
 -- `controller::calls::early_refusal` meets its contract: each test that fails gives its number, since those before it were passed.
-use Rattle.std.specs.Prelude.{ℕ, Bool, not, List, [], ◌∷◌, refl, leb, eqb}
-use Rattle.std.proofs.Math.Bool.{◌||◌, not-not}
-use Rattle.std.proofs.Common.{inl, inr, sym}
-use Rattle.std.proofs.Math.Path.{◌≡◌, ◌∙◌}
-use borrow.Author.Tests.{leb-true, leb-false, lt-ltb, le-ltb, lt-leb, le-leb, eq-eqb, ne_eqb}
+use Rattle.std.specs.Prelude.{ℕ, Bool, not, ◌||◌, List, [], ◌∷◌, ◌≡◌, refl, leb, eqb}
+use Rattle.std.proofs.Common.{inl, inr, sym, ◌∙◌, leb-true, lt-ltb, le-ltb, le-leb, eq-eqb, ne_eqb}
+use Rattle.std.proofs.Math.Bool.{not-not}
+use Rattle.std.proofs.lemmas.Bool.{leb-false, lt-leb}
 use Rattle.wire.specs.Limits.{max_frame, last_round}
 use Rattle.wire.specs.Refusal.{first_failed}
 use Rattle.wire.specs.Tray.{well_formed, round_of}

@@ -1,9 +1,7 @@
 -- `controller::calls::work_checked` meets its contract: the step is that of the state which has heard all senders, and that is the step of the state before;
 -- where it is not taken, a sender that does not fit gives 6, and too many heard give 7.
-use Rattle.std.specs.Prelude.{ℕ, Bool, true, false, cond, List, [], refl}
-use Rattle.std.proofs.Math.Bool.{◌&&◌}
-use Rattle.std.proofs.Math.Path.{◌≡◌, ◌∙◌}
-use Rattle.std.proofs.Common.{sym, ap}
+use Rattle.std.specs.Prelude.{ℕ, Bool, true, false, cond, ◌&&◌, List, [], ◌≡◌, refl}
+use Rattle.std.proofs.Common.{◌∙◌, sym, ap}
 use Rattle.std.proofs.lemmas.Bool.{lt-leb}
 use Rattle.controller.specs.Calls.{Promise}
 use Rattle.controller.specs.Fields.{whole_of, answer_of}
@@ -27,10 +25,9 @@ still_left : (t : Bool) {n : ℕ} {v : View} {s : State} {l c e before after : L
 still_left true f h d r u w q z p a = absurd (z (p.number ∙ q))
 still_left false {n} {v} {s} {l} {c} {e} {before} f h d r u w q z p a =
     let kept : whole_of u.fields l c e [] ≡ s = rw q at p.state in
-    let candidates = ap (λ (t : State). t.candidates.at) kept in
-    let echoes = ap (λ (t : State). t.echoes.at) kept in
-    let same : ◌≡◌ {A = Answer} (answer_of w h c e d) (record { refusal = 8; state = whole_of f h s.candidates.at s.echoes.at d; length = 0 }) =
-    ap (λ (x : Worked). answer_of x h c e d) a ∙ (λ i. record { refusal = 8; state = whole_of f h (candidates i) (echoes i) d; length = 0 }) in
+    let same : ◌≡◌ {A = Answer} (answer_of w h c e d) _ =
+    ap (λ (x : Worked). answer_of x h c e d) a
+    ∙ (λ i. record { refusal = 8; state = whole_of f h (kept i).candidates.at (kept i).echoes.at d; length = 0 }) in
     rw (rw q at p.output) (promise_refused n 8 v r _ before (answer_of w h c e d) q refl same)
 
 -- of two tests that do not both hold, the second fails where the first holds
@@ -44,9 +41,6 @@ pub work_heard-worked-requires : goal.work_heard-worked-requires
 work_heard-worked-requires c =
     let pre = c.requires in
     (hearing_ready pre c.hear-len.ensures c.if-len-le-MAX_NUMBERS.true, pre.early, pre.room)
-
-pub senders_fit-requires : goal.senders_fit-requires
-senders_fit-requires c = c.requires.packed
 
 pub take_over-requires : goal.take_over-requires
 take_over-requires c = (hearing_grown c.requires c.hear-len.ensures c.if-len-le-MAX_NUMBERS.true, since_places _ c.requires.sound)

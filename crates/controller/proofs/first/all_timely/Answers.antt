@@ -1,10 +1,8 @@
 -- `controller::first::all_timely` meets its contract: the latest of those passed and those that are left are timely exactly if all are.
-use Prim.Native.Nat.{ℕ, ◌+◌, ◌≤◌, ◌<◌}
 use Rattle.std.specs.Prelude.{Bool, refl, leb, length, drop}
 use Rattle.std.proofs.Math.Bool.{◌&&◌, and_assoc, and-true}
-use mathlib.Core.List.{List, ◌∷◌}
 use Rattle.std.proofs.Math.Path.{◌≡◌, ◌∙◌}
-use Rattle.std.proofs.Common.{sym, ap, add-one, arith, drop-cons}
+use Rattle.std.proofs.Common.{sym, ap, add-one, arith, drop-cons, ℕ, ◌+◌, ◌≤◌, ◌<◌, List, ◌∷◌}
 use Rattle.std.proofs.Math.Dec.{leb-suc-suc}
 use Rattle.std.proofs.Math.ListN.{get_or, drop_of_length-le}
 use Rattle.controller.specs.Work.First.{timely}

@@ -1,5 +1,5 @@
 -- `controller::first::all_timely` meets its contract: the latest of those passed and those that are left are timely exactly if all are.
-use Prim.Native.Nat.{◌-◌, ◌≤◌}
+use Rattle.std.proofs.Common.{◌-◌, ◌≤◌}
 use Rattle.std.specs.Prelude.{leb, drop}
 use Rattle.std.proofs.Math.Bool.{◌&&◌}
 use Rattle.std.proofs.Math.Path.{◌≡◌}

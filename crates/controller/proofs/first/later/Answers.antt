@@ -1,8 +1,7 @@
 -- `controller::first::later` meets its contract: where the later of two is within a bound, so is the other.
-use Prim.Native.Nat.{ℕ, ◌≤◌}
 use Rattle.std.specs.Prelude.{false, leb}
 use Rattle.std.proofs.Math.Bool.{◌&&◌, and_comm}
-use Rattle.std.proofs.Common.{inl, inr, arith, leb-true, le-leb}
+use Rattle.std.proofs.Common.{inl, inr, arith, leb-true, le-leb, ℕ, ◌≤◌}
 use Rattle.std.proofs.Math.Path.{◌≡◌, ◌∙◌}
 use Rattle.controller.specs.Laws.Lists.{true_or_false}
 use Rattle.controller.proofs.first.later.Goals as goal

@@ -1,8 +1,6 @@
 -- `controller::first::record_rounds` meets its contract: after j turns the record is the old one, moved to beside the first j numbers.
-use Prim.Native.Nat.{ℕ, ◌+◌, ◌≤◌, ◌<◌}
 use Rattle.std.specs.Prelude.{true, cond, refl, length, set, take, drop}
-use mathlib.Core.List.{List, [], ◌∷◌, ◌++◌, map}
-use Rattle.std.proofs.Common.{sym, ap, add-one, arith, length-set, take-suc, length-take-le}
+use Rattle.std.proofs.Common.{sym, ap, add-one, arith, length-set, take-suc, length-take-le, ℕ, ◌+◌, ◌≤◌, ◌<◌, List, [], ◌∷◌, ◌++◌, map}
 use Rattle.std.proofs.Math.Path.{◌≡◌, ◌∙◌}
 use Rattle.std.proofs.Math.ListN.{get_or}
 use Rattle.wire.specs.Limits.{max_numbers}

@@ -1,5 +1,5 @@
 -- `controller::first::record_rounds` meets its contract: after j turns the record is the old one, moved to beside the first j numbers.
-use Prim.Native.Nat.{◌-◌, ◌≤◌}
+use Rattle.std.proofs.Common.{◌-◌, ◌≤◌}
 use Rattle.std.specs.Prelude.{length, take}
 use Rattle.std.proofs.Math.Path.{◌≡◌}
 use Rattle.wire.specs.Limits.{max_numbers}

@@ -1,8 +1,7 @@
 -- `controller::first::take_over` meets its contract: where nobody is new, the lists are the same, and the record stays where it is.
-use Prim.Native.Nat.{ℕ, ◌≤◌}
 use Rattle.std.specs.Prelude.{List, length}
 use Rattle.std.proofs.Math.Path.{◌≡◌, ◌∙◌}
-use Rattle.std.proofs.Common.{sym, ap, arith}
+use Rattle.std.proofs.Common.{sym, ap, arith, ℕ, ◌≤◌}
 use Rattle.wire.specs.Limits.{max_numbers}
 use Rattle.wire.specs.Numbers.{listed}
 use Rattle.wire.specs.declared.frame.Numbers.{Numbers}

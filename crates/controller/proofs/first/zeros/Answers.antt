@@ -1,8 +1,7 @@
 -- `controller::first::zeros` meets its contract: after i turns the total is the count over the first i places.
-use Prim.Native.Nat.{◌+◌}
 use Rattle.std.specs.Prelude.{refl, take}
 use Rattle.std.proofs.Math.Path.{◌≡◌, ◌∙◌}
-use Rattle.std.proofs.Common.{arith}
+use Rattle.std.proofs.Common.{arith, ◌+◌}
 use Rattle.controller.specs.Laws.Work.First.{zeros_further, zeros_few}
 use Rattle.controller.specs.Lists.{count_if}
 use Rattle.controller.specs.Work.First.{is_zero}

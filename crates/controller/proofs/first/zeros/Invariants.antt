@@ -1,5 +1,5 @@
 -- `controller::first::zeros` meets its contract: after i turns the total is the count over the first i places.
-use Prim.Native.Nat.{◌-◌, ◌≤◌}
+use Rattle.std.proofs.Common.{◌-◌, ◌≤◌}
 use Rattle.std.specs.Prelude.{take}
 use Rattle.std.proofs.Math.Path.{◌≡◌}
 use Rattle.controller.specs.Lists.{count_if}

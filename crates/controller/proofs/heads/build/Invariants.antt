@@ -1,8 +1,5 @@
 -- `controller::heads::build` meets its contract: the nodes from i on are made, each from two nodes behind it, which stay as they are.
-use Prim.Native.Nat.{ℕ, ◌≤◌, ◌<◌}
-use Rattle.std.specs.Prelude.{List, length}
-use Rattle.std.proofs.Math.Path.{◌≡◌}
-use Rattle.std.proofs.Math.ListN.{get_or}
+use Rattle.std.proofs.Common.{List, ℕ, ◌<◌, ◌≡◌, ◌≤◌, length, get_or}
 use Rattle.controller.specs.Laws.Work.Tree.{Node}
 use Rattle.controller.proofs.heads.build.Given as goal
 

@@ -1,9 +1,5 @@
 -- `controller::heads::line_up` meets its contract: the lists gone through stand at their first numbers, and `build` leaves the leaves as they are.
-use Prim.Native.Nat.{ℕ, ◌+◌, ◌≤◌, ◌<◌}
-use Rattle.std.specs.Prelude.{List, set}
-use Rattle.std.proofs.Math.Path.{◌≡◌}
-use Rattle.std.proofs.Common.{arith}
-use Rattle.std.proofs.Math.ListN.{get_or}
+use Rattle.std.proofs.Common.{List, ℕ, ◌+◌, ◌<◌, ◌≡◌, ◌≤◌, set, get_or, arith}
 use Rattle.controller.specs.Work.Opened.{end_mark, max_lists, open_list}
 use Rattle.controller.specs.Work.Heads.{key_of, Stands}
 use Rattle.controller.specs.Laws.Work.Heads.{stands_first, room_set, heads_set}
@@ -20,30 +16,7 @@ lines {own} {b} {s} {n} {j = j} key next g h few e f =
       lined = λ k l. heads_set (λ r. Stands (open_list own b s n r) r 0) g.room few h first k (λ d. g.lined k (omega arith));
     }
 
-pub key_at-requires : goal.key_at-requires
-key_at-requires c =
-    let o = c.requires.0.1 in
-    let few = o.few in
-    (omega arith, (o.starts, o.counts, o.lies c.loop-j.j c.loop-j-test.true))
-
-pub key_at-requires-in-loop-j : goal.key_at-requires-in-loop-j
-key_at-requires-in-loop-j c =
-    let o = c.requires.0.1 in
-    let few = o.few in
-    (omega arith, (o.starts, o.counts, o.lies c.loop-j.j c.loop-j-test.true))
-
 pub loop-j-preserved : goal.loop-j-preserved
 loop-j-preserved c =
     lines c.key_at.result c.key_at-in-loop-j.result c.loop-j.invariant c.loop-j-test.true c.requires.0.1.few
     c.key_at.ensures c.key_at-in-loop-j.ensures
-
-pub build-requires : goal.build-requires
-build-requires c =
-    let o = c.requires.0.1 in
-    let few = o.few in
-    (o.some, omega arith)
-
-pub returns : goal.returns
-returns c =
-    let r = c.build.ensures in
-    (r.0, λ j h. rw (r.1 (c.args.len + j) (omega arith)) (c.loop-j.invariant.lined j (omega arith)))

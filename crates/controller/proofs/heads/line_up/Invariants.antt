@@ -1,7 +1,5 @@
 -- `controller::heads::line_up` meets its contract: the lists gone through stand at their first numbers, and `build` leaves the leaves as they are.
-use Prim.Native.Nat.{ℕ, ◌+◌, ◌-◌, ◌<◌}
-use Rattle.std.specs.Prelude.{List}
-use Rattle.std.proofs.Math.ListN.{get_or}
+use Rattle.std.proofs.Common.{List, ℕ, ◌+◌, ◌-◌, ◌<◌, get_or}
 use Rattle.controller.specs.Work.Opened.{open_list}
 use Rattle.controller.specs.Work.Heads.{Roomy, Stands}
 use Rattle.controller.proofs.heads.line_up.Given as goal

@@ -1,7 +1,7 @@
 -- `controller::heads::pass` meets its contract: the laws say what moving a list on and making a node anew keep, and that no head is left below the next key.
-use Rattle.std.proofs.Common.{List, ℕ, ◌/◌, ◌%◌, get_or, refl, arith}
-use Rattle.controller.specs.Laws.Work.Heads.{Waits, waiting_inner, passing_start, passing_place, passing_fits, moved_fewer, first_waits}
-use Rattle.controller.specs.Laws.Work.Heads.{climbing_starts, beside_waits, climbing_jumps, climbing_climbs, climbing_ends}
+use Rattle.std.proofs.Common.{List, ℕ, ◌%◌, ◌/◌, get_or, refl, arith}
+use Rattle.controller.specs.Laws.Work.Heads.{Waits, waiting_inner, passing_start, passing_place, passing_fits, moved_fewer, first_waits, climbing_starts}
+use Rattle.controller.specs.Laws.Work.Heads.{beside_waits, climbing_jumps, climbing_climbs, climbing_ends}
 use Rattle.controller.specs.Work.Heads.{slots, Passable}
 use Rattle.controller.proofs.heads.pass.Goals.{Then-other-limit}
 use Rattle.controller.proofs.heads.pass.Goals as goal

@@ -1,5 +1,5 @@
 -- `controller::heads::pass` meets its contract: the laws say what moving a list on and making a node anew keep, and that no head is left below the next key.
-use Rattle.std.proofs.Common.{ℕ, ◌+◌, ◌*◌, ◌/◌}
+use Rattle.std.proofs.Common.{ℕ, ◌*◌, ◌+◌, ◌/◌}
 use Rattle.controller.specs.Laws.Work.Heads.{waiting, Climbing}
 use Rattle.controller.specs.Work.Heads.{slots}
 use Rattle.controller.proofs.heads.pass.Given as goal

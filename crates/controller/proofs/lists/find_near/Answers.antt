@@ -1,8 +1,7 @@
 -- `controller::lists::find_near` meets its contract: in a rising list the place of a number that is there is where it stands.
-use Prim.Native.Nat.{ℕ, ◌+◌, ◌<◌}
 use Rattle.std.specs.Prelude.{true, false, List}
 use Rattle.std.proofs.Math.Path.{◌≡◌, ◌∙◌}
-use Rattle.std.proofs.Common.{sym, ap, arith}
+use Rattle.std.proofs.Common.{sym, ap, arith, ℕ, ◌+◌, ◌<◌}
 use Rattle.std.proofs.Math.ListN.{get_or}
 use Rattle.controller.specs.Laws.Lists.{in_mem}
 use Rattle.controller.specs.Laws.State.{ListTests, sound_list_gives}

@@ -1,8 +1,7 @@
 -- `controller::lists::has_at` meets its contract: a number is in a rising list exactly if it stands at its place.
-use Prim.Native.Nat.{ℕ, ◌≤◌, ◌<◌}
 use Rattle.std.specs.Prelude.{ltb, eqb}
 use Rattle.std.proofs.Math.Path.{◌≡◌, ◌∙◌}
-use Rattle.std.proofs.Common.{sym, arith, le-ltb}
+use Rattle.std.proofs.Common.{sym, arith, le-ltb, ℕ, ◌≤◌, ◌<◌}
 use Rattle.std.proofs.Math.ListN.{get_or}
 use Rattle.std.proofs.Math.Seq.{get_or-take}
 use Rattle.wire.specs.Numbers.{listed}

@@ -1,8 +1,7 @@
 -- `controller::lists::open_at` meets its contract: the places always are those of the list opened at place i, once x is put there.
-use Prim.Native.Nat.{ℕ, ◌+◌, ◌-◌, ◌≤◌, ◌<◌}
 use Rattle.std.specs.Prelude.{List, length, set}
 use Rattle.std.proofs.Math.Path.{◌≡◌}
-use Rattle.std.proofs.Common.{arith, length-set}
+use Rattle.std.proofs.Common.{arith, length-set, ℕ, ◌+◌, ◌-◌, ◌≤◌, ◌<◌}
 use Rattle.std.proofs.Math.ListN.{get_or}
 use Rattle.controller.specs.Laws.Work.Lists.{opened_first, opened_step}
 use Rattle.controller.specs.Work.Lists.{opened}

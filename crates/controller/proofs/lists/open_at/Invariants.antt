@@ -1,5 +1,5 @@
 -- `controller::lists::open_at` meets its contract: the places always are those of the list opened at place i, once x is put there.
-use Prim.Native.Nat.{◌≤◌, ◌<◌}
+use Rattle.std.proofs.Common.{◌≤◌, ◌<◌}
 use Rattle.std.specs.Prelude.{length, set}
 use Rattle.std.proofs.Math.Path.{◌≡◌}
 use Rattle.wire.specs.Limits.{max_numbers}

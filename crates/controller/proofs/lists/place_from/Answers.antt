@@ -1,8 +1,7 @@
 -- `controller::lists::place_from` meets its contract: the place is never behind where the search stands, and is there at the first number not below x.
-use Prim.Native.Nat.{ℕ, ◌+◌, ◌≤◌, ◌<◌}
 use Rattle.std.specs.Prelude.{List, length, take}
 use Rattle.std.proofs.Math.Path.{◌≡◌}
-use Rattle.std.proofs.Common.{arith, length-take-le}
+use Rattle.std.proofs.Common.{arith, length-take-le, ℕ, ◌+◌, ◌≤◌, ◌<◌}
 use Rattle.std.proofs.Math.ListN.{get_or}
 use Rattle.std.proofs.Math.Seq.{get_or-take}
 use Rattle.controller.specs.Lists.{Rising}

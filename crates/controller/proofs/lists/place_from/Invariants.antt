@@ -1,5 +1,5 @@
 -- `controller::lists::place_from` meets its contract: the place is never behind where the search stands, and is there at the first number not below x.
-use Prim.Native.Nat.{◌-◌, ◌≤◌}
+use Rattle.std.proofs.Common.{◌-◌, ◌≤◌}
 use Rattle.std.specs.Prelude.{take}
 use Rattle.controller.specs.Work.Lists.{below}
 use Rattle.controller.proofs.lists.place_from.Given as goal

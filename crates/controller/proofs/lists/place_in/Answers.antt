@@ -1,8 +1,7 @@
 -- `controller::lists::place_in` meets its contract: the place lies between the two ends all the time, since in a rising list a number
 -- below x is before it and one that is not is not.
-use Prim.Native.Nat.{ℕ, ◌≤◌, ◌<◌}
 use Rattle.std.proofs.Math.Path.{◌≡◌}
-use Rattle.std.proofs.Common.{arith}
+use Rattle.std.proofs.Common.{arith, ℕ, ◌≤◌, ◌<◌}
 use Rattle.std.proofs.Math.ListN.{get_or}
 use Rattle.std.proofs.Math.Seq.{get_or-take}
 use Rattle.wire.specs.Numbers.{listed}

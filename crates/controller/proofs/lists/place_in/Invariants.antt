@@ -1,6 +1,6 @@
 -- `controller::lists::place_in` meets its contract: the place lies between the two ends all the time, since in a rising list a number
 -- below x is before it and one that is not is not.
-use Prim.Native.Nat.{◌-◌, ◌≤◌}
+use Rattle.std.proofs.Common.{◌-◌, ◌≤◌}
 use Rattle.wire.specs.Limits.{max_numbers}
 use Rattle.wire.specs.Numbers.{listed}
 use Rattle.controller.specs.Work.Lists.{in_places, below}

@@ -1,9 +1,5 @@
 -- `controller::opened::list_count` meets its contract: bytes that are not refused list as many numbers as they count, and what is void lists nothing.
-use Rattle.std.specs.Prelude.{ℕ, List, length}
-use Rattle.std.proofs.Math.Logic.{◌≢◌}
-use Rattle.std.proofs.Math.Path.{◌≡◌, ◌∙◌}
-use Rattle.std.proofs.Common.{sym}
-use borrow.Author.Tests.{eq-eqb, ne_eqb}
+use Rattle.std.proofs.Common.{List, ℕ, ◌∙◌, ◌≡◌, ◌≢◌, length, sym, eq-eqb, ne_eqb}
 use Rattle.wire.specs.Frame.{content, count_of, read_refusal}
 use Rattle.wire.specs.Laws.Words.{words_length}
 use Rattle.wire.specs.Limits.{frame_header}

@@ -1,15 +1,8 @@
 -- `controller::opened::list_of` meets its contract: a frame's numbers lie behind its header, in its part of the tray, whose offset is half a word.
-use Prim.Native.Nat.{ℕ, zero, suc, ◌+◌, ◌*◌, ◌≤◌, ◌<◌}
-use Rattle.std.specs.Prelude.{Bool, cond, List, [], take, drop}
-use Rattle.std.proofs.Math.Bool.{true, false}
+use Rattle.std.proofs.Common.{List, Bool, ℕ, zero, suc, [], true, false, cond, ◌*◌, ◌+◌, ◌<◌, ◌∙◌, ◌≡◌, ◌≤◌, take, drop, refl, sym, ap, leb-true, leb}
+use Rattle.std.proofs.Common.{length, get_or, length-drop, length-take-le, arith}
 use Rattle.std.proofs.Math.Option.{Option, some, none}
-use Rattle.std.proofs.Math.Path.{◌≡◌, refl, ◌∙◌}
-use Rattle.std.proofs.Common.{sym, ap, arith}
 use Rattle.std.proofs.Math.Decide.{dec_lt}
-use borrow.Author.Tests.{leb-true}
-use Rattle.std.proofs.Math.Dec.{leb}
-use Rattle.std.proofs.Math.ListN.{length, get_or, length-drop}
-use Rattle.std.proofs.Math.Seq.{length-take-le}
 use Rattle.wire.specs.Frame.{Content, content, count_of}
 use Rattle.wire.specs.Laws.Frame.{read_numbers}
 use Rattle.wire.specs.Laws.Tray.{part_byte}
@@ -55,10 +48,6 @@ numbers_lie s t n (some c) h e =
     let read = read_numbers s t c h in
     let same : n ≡ count_of s = e ∙ ap length read.0 ∙ words_length s frame_header (count_of s) in
     (rw same (sym read.0), λ l. omega (arith, same, read.1))
-
--- a list of no numbers lies at any place, here at 0
-no_span : (b : List ℕ) → SpanOf b [] 0 0
-no_span b = record { is = refl; low = omega arith; inside = λ k l. absurd (omega arith) }
 
 module _ (b : List ℕ) (k t : ℕ) (word : k < 4294967296) where
   found : (o n r : ℕ) (s : List ℕ) → found_by k ≡ At o n → s ≡ part b o n → r ≡ length (list_in (content s t))

@@ -1,26 +1,14 @@
 -- `controller::opened::number_in` meets its contract: the own list's numbers are its first places, another's the tray's words, with none behind the last.
-use Prim.Native.Nat.{ℕ, ◌+◌, ◌*◌, ◌≤◌, ◌<◌}
-use Rattle.std.specs.Prelude.{cond, List, leb, length}
-use Rattle.std.proofs.Math.Logic.{◌≢◌}
-use Rattle.std.proofs.Math.Path.{◌≡◌, ◌∙◌}
-use Rattle.std.proofs.Common.{sym, arith}
-use borrow.Author.Tests.{le-leb, eq-eqb, ne_eqb}
-use Rattle.std.proofs.Math.ListN.{get_or, get_or-eq_default}
-use Rattle.std.proofs.Math.Seq.{get_or-take}
+use Rattle.std.proofs.Common.{List, ℕ, cond, ◌*◌, ◌+◌, ◌<◌, ◌∙◌, ◌≡◌, ◌≢◌, ◌≤◌, leb, length, sym, le-leb, ne_eqb, get_or, arith}
+use Rattle.std.proofs.Math.ListN.{get_or-eq_default}
 use Rattle.wire.specs.Limits.{number_width}
 use Rattle.wire.specs.Words.{word_at}
 use Rattle.controller.specs.Laws.Work.Opened.{list_from_length}
-use Rattle.controller.specs.Laws.Lists.{get_or_inside}
 use Rattle.wire.specs.Laws.Words.{words_at_lem}
 use Rattle.controller.specs.Work.Opened.{end_mark, list_from, Lies}
 use Rattle.controller.proofs.opened.number_in.Goals as goal
 
 module _ (own b : List ℕ) (j start count i : ℕ) (lies : Lies own b j start count) where
-  own_number : i < count → j ≡ 0 → get_or own i 0 ≡ get_or (list_from own b j start count) i end_mark
-  own_number h e =
-      get_or_inside own i 0 end_mark (omega (arith, lies.mine e))
-      ∙ rw (eq-eqb j 0 e) (sym (get_or-take count own i end_mark h))
-
   tray_number : (r : ℕ) → i < count → j ≢ 0 → r ≡ cond (leb (start + 4 * i + number_width) (length b)) (word_at b (start + 4 * i)) 0
       → r ≡ get_or (list_from own b j start count) i end_mark
   tray_number r h d e =

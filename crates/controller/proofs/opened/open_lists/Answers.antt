@@ -1,10 +1,10 @@
 -- `controller::opened::open_lists` meets its contract: the lists of the notes gone through are open, and the open ones count each number as those do.
-use Rattle.std.proofs.Common.{ℕ, ◌+◌, ◌≤◌, ◌<◌, ◌≡◌, ◌≢◌, ◌⊎◌, ◌∙◌, get_or, inl, inr, ap, arith}
+use Rattle.std.proofs.Common.{◌+◌, ◌<◌, ◌≡◌, ◌≢◌, ◌≤◌, ◌⊎◌, get_or, inl, inr, arith}
 use Rattle.wire.specs.Limits.{max_numbers}
 use Rattle.wire.specs.Words.{Below}
 use Rattle.controller.specs.Laws.Work.Opened.{under_sound, sent_few, own_sized, opening_start, opening_placeable, opening_place, opening_more}
 use Rattle.controller.specs.Laws.Work.Ready.{ready_few}
-use Rattle.controller.specs.Work.Opened.{end_mark, max_lists, noted_list, having}
+use Rattle.controller.specs.Work.Opened.{end_mark, max_lists}
 use Rattle.controller.proofs.opened.open_lists.Goals.{After-place_list-place, then-place-len, else-place-len, then-note-ne-NO_FRAME, else-note-ne-NO_FRAME}
 use Rattle.controller.proofs.opened.open_lists.Goals as goal
 
@@ -53,12 +53,3 @@ loop-j-preserved c =
     let recalled : ((last ≡ note) × (slot ≡ r)) ⊎ ((last ≡ v.last) × (slot ≡ v.slot)) =
     elim c.if-note-ne-NO_FRAME.branch [ then-note-ne-NO_FRAME w ↦ inl (w.last-is, w.slot-is) | else-note-ne-NO_FRAME w ↦ inr (w.last-is, w.slot-is) ] in
     (omega arith, opening_more v.invariant.1 few c.place_list-place.ensures bytes (under_sound c.requires.ready v.j c.loop-j-test.true) longer recalled)
-
-pub returns : goal.returns
-returns c =
-    let a = c.args in
-    let all : c.loop-j.j ≡ a.fields.heard = omega (arith, c.loop-j.invariant.0) in
-    record {
-      opens = c.loop-j.invariant.1.opens;
-      counted = λ x. c.loop-j.invariant.1.counts x ∙ ap (λ (h : ℕ). having (noted_list a.fields a.own.now a.tray.now a.notes.now) h x) all;
-    }

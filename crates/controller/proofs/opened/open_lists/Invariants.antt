@@ -1,5 +1,5 @@
 -- `controller::opened::open_lists` meets its contract: the lists of the notes gone through are open, and the open ones count each number as those do.
-use Prim.Native.Nat.{◌-◌, ◌≤◌}
+use Rattle.std.proofs.Common.{◌-◌, ◌≤◌}
 use Rattle.controller.specs.Laws.Work.Opened.{Opening}
 use Rattle.controller.proofs.opened.open_lists.Given as goal
 

@@ -1,16 +1,11 @@
 -- `controller::opened::place_list` meets its contract: with no frame the own list is received, which is open; frames with the same bytes have the same list;
 -- and a list with the own numbers is the own one. Any other is opened behind the open ones.
-use Rattle.std.specs.Prelude.{ℕ, Bool, true, cond, List, refl, take}
-use Rattle.std.proofs.Common.{true≢false, inl, inr, sym, ap, subst, arith}
-use Rattle.std.proofs.Math.Logic.{◌≢◌}
-use Rattle.std.proofs.Math.Path.{◌≡◌, ◌∙◌}
-use borrow.Author.Tests.{ne_eqb}
-use Rattle.std.proofs.Math.ListN.{get_or}
+use Rattle.std.proofs.Common.{List, Bool, ℕ, true, cond, ◌∙◌, ◌≡◌, ◌≢◌, refl, true≢false, inl, sym, ap, ne_eqb}
 use Rattle.wire.specs.Found.{Under}
 use Rattle.wire.specs.Notes.{no_frame, found_by, same_frames}
 use Rattle.wire.specs.Laws.Notes.{same_meaning}
 use Rattle.controller.specs.Received.{read_in, list_in}
-use Rattle.controller.specs.Work.Opened.{SpanOf, list_under}
+use Rattle.controller.specs.Work.Opened.{list_under}
 use Rattle.controller.specs.Work.Received.{noted}
 use Rattle.controller.proofs.opened.place_list.Goals as goal
 
@@ -27,9 +22,6 @@ module _ (round : ℕ) (l b : List ℕ) where
       ∙ ap (λ (u : Under). list_in (read_in round u)) (sym (same_meaning b (found_by j) (found_by k) same))
       ∙ sym (read_under j frame)
 
-pub returns-then-note-eq-NO_FRAME : goal.returns-then-note-eq-NO_FRAME
-returns-then-note-eq-NO_FRAME c = inl (record { one = omega (arith, c.requires.recalls.one); same = rw c.if-note-eq-NO_FRAME.true; starts = refl; counts = refl })
-
 pub returns-then-same_frames : goal.returns-then-same_frames
 returns-then-same_frames c =
     let a = c.args in
@@ -40,39 +32,4 @@ returns-then-same_frames c =
       same = same_under a.round _ a.tray.now a.last a.note c.if-note-eq-NO_FRAME.false same ∙ sym recalls.same;
       starts = refl;
       counts = refl;
-    })
-
-pub bounds-counts-0 : goal.bounds-counts-0
-bounds-counts-0 c = omega (arith, c.requires.counts)
-
-pub same_list-requires : goal.same_list-requires
-same_list-requires c =
-    let pre = c.requires in
-    let list = c.list_of-list.ensures in
-    (list.low, omega (arith, c.if-count-counts.true, pre.short), omega (arith, c.if-count-counts.true, pre.short, pre.whole), list.inside)
-
-pub returns-then-same_list : goal.returns-then-same_list
-returns-then-same_list c =
-    let a = c.args in
-    inl (record {
-      one = omega (arith, c.requires.recalls.one);
-      same =
-          read_under a.round _ a.tray.now a.note c.if-note-eq-NO_FRAME.false ∙ sym c.list_of-list.ensures.is ∙ c.same_list.ensures c.if-same_list.true
-          ∙ ap (λ (n : ℕ). take n a.own.now) c.if-count-counts.true;
-      starts = refl;
-      counts = refl;
-    })
-
-pub returns : goal.returns
-returns c =
-    let a = c.args in
-    let list = c.list_of-list.result in
-    let received = read_under a.round (take (get_or a.counts.now 0 0) a.own.now) a.tray.now a.note c.if-note-eq-NO_FRAME.false in
-    inr (record {
-      start = list.start;
-      count = list.count;
-      span = subst (λ (l : List ℕ). SpanOf a.tray.now l list.start list.count) (sym received) c.list_of-list.ensures;
-      starts = refl;
-      counts = refl;
-      last = refl;
     })

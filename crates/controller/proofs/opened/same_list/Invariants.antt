@@ -1,7 +1,5 @@
 -- `controller::opened::same_list` meets its contract: while no two numbers differed, what was passed is the same on both sides; at the end that is all.
-use Prim.Native.Nat.{ℕ, ◌+◌, ◌*◌, ◌-◌, ◌≤◌, ◌<◌}
-use Rattle.std.proofs.Math.Path.{◌≡◌}
-use Rattle.std.proofs.Math.ListN.{get_or}
+use Rattle.std.proofs.Common.{ℕ, ◌*◌, ◌+◌, ◌-◌, ◌<◌, ◌≡◌, ◌≤◌, get_or}
 use Rattle.wire.specs.Words.{word_at}
 use Rattle.controller.proofs.opened.same_list.Given as goal
 

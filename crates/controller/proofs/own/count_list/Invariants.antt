@@ -1,7 +1,5 @@
 -- `controller::own::count_list` meets its contract: after j turns so many of the first j lists are the frame's.
-use Prim.Native.Nat.{ℕ, ◌-◌, ◌≤◌}
-use Rattle.std.specs.Prelude.{List}
-use Rattle.std.proofs.Math.ListN.{get_or}
+use Rattle.std.proofs.Common.{List, ℕ, ◌-◌, ◌≤◌, get_or}
 use Rattle.wire.specs.Frame.{content}
 use Rattle.controller.specs.Received.{list_in}
 use Rattle.controller.specs.Work.Opened.{list_under}

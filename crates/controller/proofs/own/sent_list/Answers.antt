@@ -1,11 +1,7 @@
 -- `controller::own::sent_list` meets its contract: who has no entry counts as having sent the list; bytes that are no more than a header list nothing; and
 -- equal bytes list the same.
-use Prim.Native.Nat.{ℕ, ◌+◌, ◌-◌, ◌/◌, ◌%◌, ◌≤◌}
-use Rattle.std.specs.Prelude.{Bool, true, false, cond, List, [], refl, leb, eqb, length, take, drop}
-use Rattle.std.proofs.Common.{true≢false, sym, ap, arith, length-take}
-use Rattle.std.proofs.Math.Logic.{◌≢◌}
-use Rattle.std.proofs.Math.Path.{◌≡◌, ◌∙◌}
-use borrow.Author.Tests.{le-leb, eqb-true, eq-eqb, ne_eqb}
+use Rattle.std.proofs.Common.{List, Bool, ℕ, [], true, false, cond, ◌%◌, ◌+◌, ◌-◌, ◌/◌, ◌∙◌, ◌≡◌, ◌≢◌, ◌≤◌, refl, leb, eqb, length, take, drop, sym, ap}
+use Rattle.std.proofs.Common.{length-take, le-leb, eqb-true, ne_eqb, arith}
 use Rattle.wire.specs.Found.{meaning}
 use Rattle.wire.specs.Frame.{content}
 use Rattle.wire.specs.Laws.Found.{same_is}
@@ -45,17 +41,8 @@ module _ (s b : List ℕ) (k t : ℕ) (there : k ≢ 0) (long : k % 65536 ≡ le
       let most = part_most b (k / 65536) (k % 65536) in
       under (short_list (part b (k / 65536) (k % 65536)) t (omega arith) ∙ sym (short_list s t (omega arith)))
 
-pub returns-then-note-eq-NO_FRAME : goal.returns-then-note-eq-NO_FRAME
-returns-then-note-eq-NO_FRAME c t h = rw (eq-eqb _ _ c.if-note-eq-NO_FRAME.true)
-
-pub returns-then-len-frame : goal.returns-then-len-frame
-returns-then-len-frame c t h = absurd (true≢false (sym h))
-
 pub returns-then-len-eq-FRAME_HEADER : goal.returns-then-len-eq-FRAME_HEADER
 returns-then-len-eq-FRAME_HEADER c t h = header _ _ _ t c.if-note-eq-NO_FRAME.false c.if-len-frame.false c.if-len-eq-FRAME_HEADER.true
-
-pub returns-then-tray-offset : goal.returns-then-tray-offset
-returns-then-tray-offset c t h = absurd (true≢false (sym h))
 
 pub returns : goal.returns
 returns c t h =

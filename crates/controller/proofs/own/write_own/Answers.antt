@@ -1,13 +1,7 @@
 -- `controller::own::write_own` meets its contract: what is laid out are the bytes of the frame of one that is silent, which is allowed since the state is
 -- sound; so it reads as its content, whose list is the own one.
-use Prim.Native.Nat.{ℕ, ◌-◌, ◌≤◌}
-use Rattle.std.specs.Prelude.{true, cond, List, refl, eqb, length, drop}
-use Rattle.std.proofs.Common.{ap, arith}
-use Rattle.std.proofs.Math.Path.{◌≡◌, sym, ◌∙◌}
+use Rattle.std.proofs.Common.{List, ℕ, true, cond, ◌-◌, ◌∙◌, ◌≡◌, ◌≤◌, refl, eqb, length, drop, ap, sym, eq-eqb, ne_eqb, take, take_at, arith}
 use Rattle.std.proofs.Math.Nat.{sub-zero}
-use borrow.Author.Tests.{eq-eqb, ne_eqb}
-use Rattle.std.proofs.Math.ListN.{take}
-use Rattle.std.proofs.Math.Seq.{take_at}
 use Rattle.controller.specs.Fields.{state_of}
 use Rattle.controller.specs.Laws.Received.{silent_bit, stand_in_writable, stand_in_bit, stand_in_list}
 use Rattle.controller.specs.Laws.State.{rules_give}

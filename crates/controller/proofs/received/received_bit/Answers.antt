@@ -1,6 +1,6 @@
 -- `controller::received::received_bit` meets its contract: the test gives `bit_under` its case.
+use Rattle.std.proofs.Common.{eq-eqb, ne_eqb}
 use Rattle.std.specs.Prelude.{◌≡◌, false, eqb}
-use borrow.Author.Tests.{eq-eqb, ne_eqb}
 use Rattle.wire.specs.Notes.{no_frame}
 use Rattle.controller.proofs.received.received_bit.Goals as goal
 

@@ -1,9 +1,8 @@
 -- `controller::received::senders_fit` meets its contract: the senders that are left fit exactly if all do.
 use Rattle.std.specs.Prelude.{ℕ, ◌+◌, ◌-◌, ◌≤◌, ◌<◌, true, false, not, List, ◌∷◌, ◌≡◌}
-use Rattle.std.proofs.Common.{sym, ◌∙◌, arith, rules}
+use Rattle.std.proofs.Common.{sym, ◌∙◌, arith, rules, eq-eqb, ne_eqb}
 use Rattle.std.proofs.Math.Bool.{and-false}
 use Rattle.std.proofs.Math.Nat.{sub-zero}
-use borrow.Author.Tests.{eq-eqb, ne_eqb}
 use Rattle.controller.proofs.Directory.{entry_sent}
 use Rattle.controller.specs.Laws.Received.{senders_step}
 use Rattle.controller.specs.Lists.{mem}

@@ -1,8 +1,7 @@
 -- `controller::received::short_head` meets its contract: a frame of eight bytes says a bit exactly if it is the header with that bit, and any other is void.
 use Rattle.std.specs.Prelude.{ℕ, ◌/◌, ◌%◌, Bool, true, false, cond, List, ◌≢◌, ◌≡◌, refl, eqb}
-use Rattle.std.proofs.Common.{ap, arith}
+use Rattle.std.proofs.Common.{ap, arith, eq-eqb, ne_eqb}
 use Rattle.std.proofs.Math.Decide.{ℕ_discrete}
-use borrow.Author.Tests.{eq-eqb, ne_eqb}
 use Rattle.wire.specs.Found.{meaning}
 use Rattle.wire.specs.Frame.{content, bit_in}
 use Rattle.wire.specs.Heads.{Short, head_from, head_of}

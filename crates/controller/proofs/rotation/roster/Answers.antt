@@ -1,10 +1,9 @@
 -- `controller::rotation::roster` meets its contract: after j turns the list has those of the first j heard that sent init.
 use Rattle.std.specs.Prelude.{ℕ, ◌+◌, ◌-◌, ◌<◌, Bool, true, false, List, [], ◌∷◌, ◌++◌, ◌≡◌, eqb, length, get_or, take}
-use Rattle.std.proofs.Common.{sym, ap, ◌∙◌, add-one, arith, length-append, take-suc, get_or-take, eq-eqb, ne_eqb}
+use Rattle.std.proofs.Common.{sym, ap, ◌∙◌, add-one, arith, length-append, take-suc, get_or-take, eq-eqb, ne_eqb, append-nil}
 use Rattle.std.proofs.Math.ListN.{set}
 use Rattle.std.proofs.lemmas.List.{length-replicate}
 use Rattle.std.proofs.Math.Seq.{take_all}
-use mathlib.Core.List.{append-nil}
 use Rattle.controller.specs.Fields.{state_of}
 use Rattle.controller.specs.Laws.Lists.{keep_append}
 use Rattle.controller.specs.Laws.Work.Ready.{ready_listed, ready_used, ready_says}

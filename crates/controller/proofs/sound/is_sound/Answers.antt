@@ -1,8 +1,7 @@
 -- `controller::sound::is_sound` meets its contract: the parts that it tests, taken together, are `sound`.
-use Prim.Native.Nat.{ℕ, ◌<◌}
 use Rattle.std.specs.Prelude.{Bool, true, refl, ◌&&◌}
 use Rattle.std.proofs.Math.Path.{◌≡◌, ◌∙◌}
-use Rattle.std.proofs.Common.{sym, ap, arith}
+use Rattle.std.proofs.Common.{sym, ap, arith, ℕ, ◌<◌}
 use Rattle.std.proofs.Math.ListN.{get_or}
 use Rattle.wire.specs.Numbers.{listed}
 use Rattle.wire.specs.declared.frame.Numbers.{Numbers}

@@ -1,8 +1,7 @@
 -- `controller::sound::zero_places` meets its contract: after i turns the total is the count over the first i places.
-use Prim.Native.Nat.{◌+◌}
 use Rattle.std.proofs.Math.Path.{◌≡◌, ◌∙◌}
 use Rattle.std.specs.Prelude.{refl, take}
-use Rattle.std.proofs.Common.{ap, arith}
+use Rattle.std.proofs.Common.{ap, arith, ◌+◌}
 use Rattle.std.proofs.Math.Seq.{take_all}
 use Rattle.controller.specs.Laws.Work.First.{zeros_further, zeros_few}
 use Rattle.controller.specs.Lists.{count_if}

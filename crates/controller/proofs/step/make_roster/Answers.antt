@@ -4,8 +4,5 @@ use Rattle.controller.specs.Laws.State.{rules_give}
 use Rattle.controller.specs.Laws.Work.Step.{roster_made}
 use Rattle.controller.proofs.step.make_roster.Goals as goal
 
-pub roster-requires : goal.roster-requires
-roster-requires c = (c.requires.0, c.requires.2)
-
 pub returns : goal.returns
-returns c = λ w e ready k. roster_made ready _ k (c.roster.ensures w e ready (kind_first _ (rules_give _ ready.sound).early k))
+returns c w e ready k = roster_made ready _ k (c.roster.ensures w e ready (kind_first _ (rules_give _ ready.sound).early k))

@@ -5,12 +5,6 @@ use Rattle.controller.proofs.step.make_value.Goals as goal
 pub bit_taken-bit-requires : goal.bit_taken-bit-requires
 bit_taken-bit-requires c = rules_heard _ c.requires.0.sound
 
-pub grow-lists-requires : goal.grow-lists-requires
-grow-lists-requires c = c.requires.0
-
-pub grown-requires : goal.grown-requires
-grown-requires c = (c.requires.2, c.grow-lists.ensures.few)
-
 pub returns : goal.returns
 returns c =
     let pre = c.requires in

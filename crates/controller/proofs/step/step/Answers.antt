@@ -1,7 +1,6 @@
 -- `controller::step::step` meets its contract: the kind of the next round picks the bullet.
-use Rattle.std.specs.Prelude.{ℕ, ◌+◌, ◌<◌, ◌≤◌, List, ◌≢◌}
-use Rattle.std.proofs.Math.Path.{◌≡◌, ◌∙◌}
-use Rattle.std.proofs.Common.{sym, arith}
+use Rattle.std.specs.Prelude.{ℕ, ◌+◌, ◌≤◌, ◌<◌, List, ◌≢◌, ◌≡◌}
+use Rattle.std.proofs.Common.{◌∙◌, sym, arith}
 use Rattle.controller.specs.Laws.Work.Ready.{ready_few}
 use Rattle.controller.specs.Laws.Rules.{kind_above, kind_before}
 use Rattle.controller.specs.Laws.State.{rules_give, rules_round}
@@ -33,9 +32,6 @@ pub make_roster-made-requires : goal.make_roster-made-requires
 make_roster-made-requires c =
     let ready = c.requires.0 in
     (ready_few ready, c.requires.1, echoes_empty ready (sym c.kind_of-kind.ensures ∙ c.if-kind-eq-ROSTER.true))
-
-pub make_value-requires : goal.make_value-requires
-make_value-requires c = (c.requires.0, sym c.kind_of-kind.ensures ∙ c.if-kind-eq-VALUE.true, c.requires.1)
 
 pub count_bits-counts-requires : goal.count_bits-counts-requires
 count_bits-counts-requires c = ready_few c.requires.0

@@ -1,9 +1,7 @@
 -- `controller::tally::settle` meets its contract: not at a third, or a candidate, the number changes nothing;
 -- else it is put in at its place, or is one too many.
-use Prim.Native.Nat.{ℕ, ◌*◌, ◌≤◌, ◌<◌}
-use Rattle.std.specs.Prelude.{Bool, false, List, length, take}
-use Rattle.std.proofs.Common.{sym, arith}
-use Rattle.std.proofs.Math.Path.{◌≡◌, ◌∙◌}
+use Rattle.std.specs.Prelude.{ℕ, ◌*◌, ◌≤◌, ◌<◌, Bool, false, List, ◌≡◌, length, take}
+use Rattle.std.proofs.Common.{sym, arith, ◌∙◌}
 use Rattle.controller.specs.Lists.{In, mem}
 use Rattle.controller.specs.Laws.Lists.{mem_in, mem_out}
 use Rattle.controller.specs.Laws.Work.Settle.{settles_few, settles_known, settles_crowds_echoes, settles_echoes, settles_crowds_candidates, settles_joins}
@@ -26,6 +24,7 @@ module _ {s : Settled} {x count h : ℕ} {e k : List ℕ} (pre : Settleable s x 
   positive : h ≤ 3 * count → 0 < x
   positive third = pre.positive (omega (arith, pre.some))
 
+-- a test that has not found x
 absent : {r : Bool} {x : ℕ} {l : List ℕ} → r ≡ mem x l → r ≡ false → ¬ In x l
 absent {l = l} is none = mem_out l (sym is ∙ none)
 
@@ -35,9 +34,6 @@ returns-then-count-h c v cs e was = settles_few was (omega (arith, c.if-count-h.
 pub place_from-place-requires : goal.place_from-place-requires
 place_from-place-requires c = ((tests c.requires).list.rises, inside c.requires, c.requires.place)
 
-pub has_at-requires : goal.has_at-requires
-has_at-requires c = (c.requires.candidates, c.place_from-place.ensures)
-
 pub returns-then-has_at : goal.returns-then-has_at
 returns-then-has_at c v cs e was = settles_known was (mem_in _ (sym c.has_at.ensures ∙ c.if-has_at.true))
 
@@ -45,9 +41,6 @@ pub returns-then-e-ge-MAX_NUMBERS : goal.returns-then-e-ge-MAX_NUMBERS
 returns-then-e-ge-MAX_NUMBERS c v cs e was =
     settles_crowds_echoes was (omega (arith, c.if-count-h.false)) (absent c.has_at.ensures c.if-has_at.false) (positive c.requires c.if-count-h.false)
     c.if-e-ge-MAX_NUMBERS.true c.crowded.ensures
-
-pub insert_at-requires : goal.insert_at-requires
-insert_at-requires c = (c.requires.echoes, omega arith, c.if-e-ge-MAX_NUMBERS.false)
 
 pub returns-then-count-h-2 : goal.returns-then-count-h-2
 returns-then-count-h-2 c v cs e was =

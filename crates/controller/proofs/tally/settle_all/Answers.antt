@@ -1,6 +1,5 @@
 -- `controller::tally::settle_all` meets its contract: each turn settles the least number left, so that all are settled when the lists have ended.
-use Rattle.std.specs.Prelude.{ℕ, ◌+◌, ◌/◌, ◌≤◌, true, List, get_or, length, take}
-use Rattle.std.proofs.Math.Path.{◌≡◌}
+use Rattle.std.specs.Prelude.{ℕ, ◌+◌, ◌/◌, ◌≤◌, true, List, ◌≡◌, length, get_or, take}
 use Rattle.std.proofs.Common.{sym, arith}
 use Rattle.controller.specs.Laws.Work.Walk.{settles_none, settles_crowd, Walking, walking_on, walking_end}
 use Rattle.controller.specs.Laws.Work.Weights.{weighed_most, weighed_positive}

@@ -1,6 +1,5 @@
 -- `controller::tally::settle_own` meets its contract: each turn settles the least number left of a rising list.
-use Rattle.std.specs.Prelude.{ℕ, ◌+◌, ◌<◌, true, cond, List, length, get_or, take}
-use Rattle.std.proofs.Math.Path.{◌≡◌}
+use Rattle.std.specs.Prelude.{ℕ, ◌+◌, ◌<◌, true, cond, List, ◌≡◌, length, get_or, take}
 use Rattle.std.proofs.Common.{arith, length-take-le, get_or-take}
 use Rattle.controller.specs.Laws.Lists.{in_mem, get_or_in}
 use Rattle.controller.specs.Laws.Work.Own.{Passed, passed_none, passed_next, passed_on, passed_all}

@@ -1,6 +1,6 @@
 -- `controller::tally::tally` meets its contract: where more than two thirds sent the own list, what is sorted by it alone is sorted by the tally.
-use Rattle.std.specs.Prelude.{take}
-use Rattle.std.proofs.Common.{refl, arith}
+use Rattle.std.specs.Prelude.{refl, take}
+use Rattle.std.proofs.Common.{arith}
 use Rattle.controller.specs.Laws.State.{rules_candidates}
 use Rattle.controller.specs.Laws.Work.Opened.{own_places, own_sound}
 use Rattle.controller.specs.Laws.Work.Own.{agrees_decides}

@@ -1,5 +1,5 @@
 -- `controller::tally::tally_all` meets its contract: the open lists count as the received ones do, so that what is sorted along them is sorted by the tally.
-use Rattle.std.proofs.Common.{refl}
+use Rattle.std.specs.Prelude.{refl}
 use Rattle.std.proofs.Math.ListN.{get_or-replicate}
 use Rattle.controller.specs.Work.Opened.{max_lists}
 use Rattle.controller.specs.Laws.State.{rules_candidates}

@@ -1,8 +1,7 @@
 -- Laws of the tests that come first: what they refuse the tray refuses, and what a tray has passed where they all pass.
 use Rattle.std.specs.Prelude.{ℕ, Bool, true, false, List, [], ◌∷◌, ◌++◌, ◌≢◌, ◌≡◌, refl, ltb}
 use Rattle.std.proofs.Math.Bool.{and-eq-true_iff}
-use Rattle.std.proofs.Common.{arith}
-use borrow.Author.Tests.{ltb-true, leb-true, eqb-true}
+use Rattle.std.proofs.Common.{arith, ltb-true, leb-true, eqb-true}
 use Rattle.wire.specs.Limits.{last_round}
 use Rattle.wire.specs.Refusal.{first_failed}
 use Rattle.wire.specs.Tray.{entries}

@@ -1,8 +1,9 @@
 -- Laws of what the tally makes: the lists that the walk has made hold the numbers that the rules echo and make candidates, and where there are too many for
 -- them, so there are by the rules.
-use Rattle.std.specs.Prelude.{ℕ, ◌<◌, Bool, true, false, ◌&&◌, List, ◌≡◌, refl, leb, length}
+use Rattle.std.specs.Prelude.{ℕ, ◌<◌, true, false, ◌&&◌, List, ◌≡◌, refl, leb, length}
 use Rattle.std.proofs.Common.{true≢false, inl, inr, sym, ap, ◌∙◌, arith, le-leb}
 use Rattle.std.proofs.lemmas.Bool.{lt-leb}
+use Rattle.std.proofs.Math.Bool.{and-false}
 use Rattle.wire.specs.Limits.{max_numbers}
 use Rattle.wire.specs.Numbers.{stored, listed}
 use Rattle.wire.specs.Tray.{entries}
@@ -19,10 +20,6 @@ use Rattle.controller.specs.Laws.Rotation.{echoed_in, echoed_rising, candidates_
 use Rattle.controller.specs.Laws.State.{rules_give, sound_list_gives}
 use Rattle.controller.specs.declared.state.State.{State}
 use Rattle.controller.specs.declared.tally.Settled.{Settled}
-
-and-false : (b : Bool) → (b && false) ≡ false
-and-false true = refl
-and-false false = refl
 
 -- a stored list that holds just the numbers of a rising list is its stored form
 holds_stored : {P : ℕ → Type 0} (n : Numbers) (l : List ℕ) → HasJust P n → Rising l → ((y : ℕ) → P y → In y l) → ((y : ℕ) → In y l → P y) → n ≡ stored l

@@ -1,8 +1,7 @@
 -- `controller_c::image::clear_reserved` meets its contract: the zeros that are left to store, behind those stored, give the whole run of stores.
-use Prim.Native.Nat.{ℕ, suc, ◌+◌, ◌-◌, ◌≤◌, ◌<◌}
 use Rattle.std.specs.Prelude.{List, [], refl, set}
 use Rattle.std.proofs.Math.Path.{◌≡◌, ◌∙◌}
-use Rattle.std.proofs.Common.{add-one, arith, rules, length-set}
+use Rattle.std.proofs.Common.{add-one, arith, rules, length-set, ℕ, suc, ◌+◌, ◌-◌, ◌≤◌, ◌<◌}
 use Rattle.std.proofs.lemmas.List.Edits.{sets}
 use Rattle.controller_c.specs.Image.{image_bytes, zeros_from}
 use Rattle.controller_c.proofs.image.clear_reserved.Goals as goal

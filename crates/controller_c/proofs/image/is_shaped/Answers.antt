@@ -1,5 +1,5 @@
 -- `controller_c::image::is_shaped` meets its contract: the two tests are those of `shaped`, in its order.
-use borrow.Author.Tests.{eq-eqb, ne_eqb}
+use Rattle.std.proofs.Common.{eq-eqb, ne_eqb}
 use Rattle.controller_c.specs.Image.{shaped}
 use Rattle.controller_c.proofs.image.is_shaped.Goals as goal
 

@@ -1,7 +1,6 @@
 -- `controller_c::image::lay_out` meets its contract: the stores, each behind the one before, are one run of stores over all of the image.
-use Rattle.std.proofs.Common.{rules, sym, ap, arith}
+use Rattle.std.proofs.Common.{rules, sym, ap, arith, List, ◌++◌}
 use Rattle.std.specs.Prelude.{ℕ, length}
-use mathlib.Core.List.{List, ◌++◌}
 use Rattle.std.proofs.Math.Path.{◌≡◌, ◌∙◌}
 use Rattle.std.proofs.lemmas.List.Edits.{sets}
 use Rattle.wire.specs.Limits.{max_numbers}

@@ -1,8 +1,6 @@
 -- `controller_c::image::lay_over` meets its contract: a part that is stored is the new state's, and one that is not stored is the same in both states.
-use Rattle.std.proofs.Common.{rules, sym, ap, arith, eqb-true, leb-false}
-use Prim.Native.Nat.{ℕ, ◌<◌}
+use Rattle.std.proofs.Common.{rules, sym, ap, arith, eqb-true, leb-false, ℕ, ◌<◌, List, ◌++◌}
 use Rattle.std.specs.Prelude.{true, eqb, leb, length}
-use mathlib.Core.List.{List, ◌++◌}
 use Rattle.std.proofs.Math.Logic.{inl, inr}
 use Rattle.std.proofs.Math.Path.{◌≡◌, refl, ◌∙◌}
 use Rattle.std.proofs.lemmas.List.Edits.{sets}

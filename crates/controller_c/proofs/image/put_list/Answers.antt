@@ -1,8 +1,7 @@
 -- `controller_c::image::put_list` meets its contract: the places' stores follow the count's.
-use Prim.Native.Nat.{ℕ, ◌+◌}
 use Rattle.std.specs.Prelude.{List}
 use Rattle.std.proofs.Math.Path.{◌≡◌, ◌∙◌}
-use Rattle.std.proofs.Common.{arith}
+use Rattle.std.proofs.Common.{arith, ℕ, ◌+◌}
 use Rattle.std.proofs.lemmas.List.Edits.{sets}
 use Rattle.wire.specs.declared.frame.Numbers.{Numbers}
 use Rattle.controller_c.specs.Image.{count_bytes, list_bytes}

@@ -1,5 +1,5 @@
 -- `controller_c::image::put_places` meets its contract: what is left to store, stored behind what was stored, gives the whole run of stores.
-use Prim.Native.Nat.{◌+◌, ◌*◌, ◌-◌, ◌≤◌}
+use Rattle.std.proofs.Common.{◌+◌, ◌*◌, ◌-◌, ◌≤◌}
 use Rattle.std.proofs.Math.Path.{◌≡◌}
 use Rattle.std.specs.Prelude.{length, drop}
 use Rattle.std.proofs.lemmas.List.Edits.{sets}

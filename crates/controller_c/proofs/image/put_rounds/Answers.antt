@@ -1,8 +1,7 @@
 -- `controller_c::image::put_rounds` meets its contract: the rounds that are left to store, behind those stored, give the whole run of stores.
-use Prim.Native.Nat.{ℕ, suc, ◌+◌, ◌<◌}
 use Rattle.std.specs.Prelude.{List, refl, length, set, drop}
 use Rattle.std.proofs.Math.Path.{◌≡◌, ◌∙◌}
-use Rattle.std.proofs.Common.{add-one, arith, rules, length-set, drop-cons}
+use Rattle.std.proofs.Common.{add-one, arith, rules, length-set, drop-cons, ℕ, suc, ◌+◌, ◌<◌}
 use Rattle.std.proofs.Math.ListN.{get_or, drop_of_length-le}
 use Rattle.std.proofs.lemmas.List.Edits.{sets}
 use Rattle.controller_c.specs.Image.{since_at}

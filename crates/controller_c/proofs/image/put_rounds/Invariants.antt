@@ -1,5 +1,5 @@
 -- `controller_c::image::put_rounds` meets its contract: the rounds that are left to store, behind those stored, give the whole run of stores.
-use Prim.Native.Nat.{◌+◌, ◌-◌, ◌≤◌}
+use Rattle.std.proofs.Common.{◌+◌, ◌-◌, ◌≤◌}
 use Rattle.std.specs.Prelude.{length, drop}
 use Rattle.std.proofs.Math.Path.{◌≡◌}
 use Rattle.std.proofs.lemmas.List.Edits.{sets}

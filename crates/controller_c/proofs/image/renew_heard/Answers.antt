@@ -1,6 +1,5 @@
 -- `controller_c::image::renew_heard` meets its contract: it stores exactly if the counts differ.
-use Rattle.std.proofs.Common.{ap}
-use borrow.Author.Tests.{eq-eqb, ne_eqb}
+use Rattle.std.proofs.Common.{ap, eq-eqb, ne_eqb}
 use Rattle.std.specs.Prelude.{List, ℕ}
 use Rattle.std.proofs.Math.Path.{◌∙◌}
 use Rattle.std.proofs.lemmas.List.Edits.{sets}

@@ -1,10 +1,8 @@
 -- `controller_c::image::reserved_zero` meets its contract: the bytes that are left are 0, and those passed, joined, are, exactly if all are.
-use Prim.Native.Nat.{ℕ, ◌+◌, ◌≤◌, ◌<◌}
 use Rattle.std.proofs.Math.Bool.{◌&&◌, and_assoc, and-true}
-use mathlib.Core.List.{List, ◌∷◌}
 use Rattle.std.proofs.Math.Path.{◌≡◌, ◌∙◌}
 use Rattle.std.specs.Prelude.{refl, eqb, length, drop}
-use Rattle.std.proofs.Common.{sym, add-one, arith, rules, drop-cons}
+use Rattle.std.proofs.Common.{sym, add-one, arith, rules, drop-cons, ℕ, ◌+◌, ◌≤◌, ◌<◌, List, ◌∷◌}
 use Rattle.std.specs.Int.Bits.{bit_or}
 use Rattle.std.proofs.Math.ListN.{get_or, drop_of_length-le}
 use Rattle.wire.specs.Laws.Bits.{or_zero}

@@ -1,5 +1,5 @@
 -- `controller_c::image::reserved_zero` meets its contract: the bytes that are left are 0, and those passed, joined, are, exactly if all are.
-use Prim.Native.Nat.{◌-◌, ◌≤◌}
+use Rattle.std.proofs.Common.{◌-◌, ◌≤◌}
 use Rattle.std.proofs.Math.Bool.{◌&&◌}
 use Rattle.std.proofs.Math.Path.{◌≡◌}
 use Rattle.std.specs.Prelude.{eqb, drop}

@@ -1,8 +1,7 @@
 -- `controller_c::image::take_rounds` meets its contract: what is left to read, stored behind what was read, gives all the places.
-use Prim.Native.Nat.{ℕ, suc, ◌+◌, ◌<◌}
 use Rattle.std.specs.Prelude.{List, [], refl, length, set, replicate}
 use Rattle.std.proofs.Math.Path.{◌≡◌, sym, ◌∙◌}
-use Rattle.std.proofs.Common.{add-one, arith, rules}
+use Rattle.std.proofs.Common.{add-one, arith, rules, ℕ, suc, ◌+◌, ◌<◌}
 use Rattle.std.proofs.Math.ListN.{get_or}
 use Rattle.std.proofs.lemmas.List.{length-replicate}
 use Rattle.std.proofs.lemmas.List.Edits.{sets}

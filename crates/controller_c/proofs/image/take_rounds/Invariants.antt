@@ -1,5 +1,5 @@
 -- `controller_c::image::take_rounds` meets its contract: what is left to read, stored behind what was read, gives all the places.
-use Prim.Native.Nat.{ℕ, ◌+◌, ◌-◌, ◌≤◌}
+use Rattle.std.proofs.Common.{ℕ, ◌+◌, ◌-◌, ◌≤◌}
 use Rattle.std.specs.Prelude.{List, replicate}
 use Rattle.std.proofs.Math.Path.{◌≡◌}
 use Rattle.std.proofs.lemmas.List.Edits.{sets}

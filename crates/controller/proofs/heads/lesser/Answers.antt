@@ -1,9 +1,0 @@
--- `controller::heads::lesser` meets its contract: its test is that of the definition.
-use Rattle.std.proofs.Common.{lt-ltb, le-ltb}
-use Rattle.controller.proofs.heads.lesser.Goals as goal
-
-pub returns-then-x-y : goal.returns-then-x-y
-returns-then-x-y c = rw (lt-ltb c.args.x c.args.y c.if-x-y.true)
-
-pub returns-else-x-y : goal.returns-else-x-y
-returns-else-x-y c = rw (le-ltb c.args.x c.args.y c.if-x-y.false)
