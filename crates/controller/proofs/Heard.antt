@@ -126,6 +126,7 @@ module _ {s : State} {b : List ℕ} {n : ℕ} (k : Checked s b n) {r : ℕ} {at 
 
     -- what is promised of its step is promised of the tray
     pub hearing_promised : {before after : List ℕ} {a : Answer}
-        → Promise (cond (lists_fit (view (heard_state s all)) (entries b)) 0 8) (next (view (heard_state s all)) (entries b)) [] (heard_state s all) before a after
+        → Promise (cond (lists_fit (view (heard_state s all)) (entries b)) 0 8) (next (view (heard_state s all)) (entries b)) []
+        (heard_state s all) before a after
         → Promise (tray_refusal s b n) (next (view s) (entries b)) [] (heard_state s all) before a after
     hearing_promised p = rw hearing_passed (rw (more_next s (entries b) all (sound_rules_lem s k.sound) list) at p)

@@ -15,8 +15,8 @@ use Rattle.controller.specs.Refusals.{start_refusal, tray_refusal}
 use Rattle.controller.specs.Examples.{Session, LateJoiner}
 
 pub session_printed : Session
-unfolding kind_of chosen_by said_by bit_fits max_count round_fits round_of entry_count well_formed entries third two_thirds sound_rules sound_beside sound frame_of
-    stand_in receive firsts_after roster tally mentioned echoed joined candidates_after decides king_after bit_taken decision_after value_said value_two_thirds
+unfolding kind_of chosen_by said_by bit_fits max_count round_fits round_of entry_count well_formed entries third two_thirds sound_rules sound_beside sound
+    frame_of stand_in receive firsts_after roster tally mentioned echoed joined candidates_after decides king_after bit_taken decision_after value_said value_two_thirds
     proposal_third proposal_two_thirds proposal bit_adopted strong_after opinion step start_refusal tray_refusal
 session_printed = record { start_accepted = refl; trays_accepted = refl; printed = refl }
 
@@ -24,8 +24,8 @@ session_printed = record { start_accepted = refl; trays_accepted = refl; printed
 pub late_joiner : LateJoiner 0 1 1 × LateJoiner 1 0 0
 unfolding kind_of chosen_by said_by bit_fits max_count length_fits round_fits head_fits body_fits read_refusal content frame_bytes round_of entry_count
     sender well_formed part entries third two_thirds sound_rules sound_beside sound frame_of stand_in receive firsts_after roster tally mentioned echoed joined
-    candidates_after decides king_after bit_taken decision_after value_said value_two_thirds proposal_third proposal_two_thirds proposal bit_adopted strong_after
-    opinion step tray_refusal
+    candidates_after decides king_after bit_taken decision_after value_said value_two_thirds proposal_third proposal_two_thirds proposal bit_adopted
+    strong_after opinion step tray_refusal
 late_joiner = (
   record { accepted = refl; phase_0 = refl; phase_1_candidates = refl; phase_1 = refl; decided = refl; last_round_lem = refl; first_heard = refl },
   record { accepted = refl; phase_0 = refl; phase_1_candidates = refl; phase_1 = refl; decided = refl; last_round_lem = refl; first_heard = refl },
