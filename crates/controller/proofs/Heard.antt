@@ -1,5 +1,5 @@
 -- A state that has heard a tray's senders: it is sound, and it takes the step that the state before takes.
---     heard_state s n    the state s with the list n of those heard, and without its record, which no step is lent
+--     heard_state s n   the state s with the list n of those heard, and without its record, which no step is lent
 use Rattle.std.specs.Prelude.{true, cond, leb}
 use Rattle.std.proofs.Math.Bool.{◌&&◌, and-eq-true_iff}
 use Rattle.std.proofs.Common.{inl, inr, sym, ap, le-leb, leb-true, ℕ, ◌≤◌, ◌<◌, List, []}

@@ -1,12 +1,12 @@
 -- The bit: document 01, "From one tray to the next frame": (a) and the decision of making round 3 + 3r, making rounds 4 + 3r and 5 + 3r; and document 02,
 -- "A7. Let decided controllers go quiet".
 --     phase v              r, where round 3 + 3r is to be made
---     bit_taken v r         (a): the own bit, or the king's opinion
---     decision_after v r    (c): the decision
---     value_said v r        what is said with the value: the own bit, or nothing by one that has decided
+--     bit_taken v r        (a): the own bit, or the king's opinion
+--     decision_after v r   (c): the decision
+--     value_said v r       what is said with the value: the own bit, or nothing by one that has decided
 --     proposal r           making round 4 + 3r: what is proposed
---     bit_adopted v r       making round 5 + 3r: the own bit, or the bit that was proposed
---     strong_after v r      making round 5 + 3r: strong
+--     bit_adopted v r      making round 5 + 3r: the own bit, or the bit that was proposed
+--     strong_after v r     making round 5 + 3r: strong
 --     opinion v r          making round 5 + 3r: what is said
 use Rattle.std.specs.Prelude.{ℕ, ◌/◌, Bool, not, cond, ◌&&◌, leb, ltb, eqb, length}
 use Rattle.controller.specs.Thirds.{third, two_thirds}

@@ -1,15 +1,15 @@
 -- The two worked examples of document 01, the session that "The session printer" lists and the last of the "Trials", both as document 02, "A7. Let decided
 -- controllers go quiet", changes them.
---     after_start v         the state after a start that made v
+--     after_start v        the state after a start that made v
 --     worked s b           the state that a call makes of s with the tray b
 --     row v                a line of the printer: what a call that made the state v prints
 --     listing s bs         the lines from the state s on, over the trays bs
 --     refusals s bs        what these trays are refused under, 0 for none
 --     Session              what the paper says of the session
---     from_three t p        what the faulty 3 sends to p in round t, as entries of p's tray; from_others p vs, what the others of vs send, those who
+--     from_three t p       what the faulty 3 sends to p in round t, as entries of p's tray; from_others p vs, what the others of vs send, those who
 --                          have decided nothing
 --     packed t es          the well packed tray of round t with the entries es
---     tray_to s ss          the tray of the one whose state is s: what 3 sends to it, then the frames of the others of ss, byte for byte
+--     tray_to s ss         the tray of the one whose state is s: what 3 sends to it, then the frames of the others of ss, byte for byte
 --     exchange ss          the states after each has taken its tray
 --     LateJoiner a b c     what the paper says of the trial, where 5, 7 and 9 bring in the bits a, b, c
 use Rattle.std.specs.Prelude.{ℕ, zero, suc, ◌+◌, ◌*◌, not, cond, ◌&&◌, ◌||◌, List, [], ◌∷◌, ◌++◌, map, ◌≡◌, eqb, length, replicate}

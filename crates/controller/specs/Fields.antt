@@ -1,7 +1,7 @@
 -- A state in parts: what a call in place is given. They are no part of the rules.
---     whole_of f h c e p    the state with the fields f, where h, c and e are the places of heard, candidates and echoes, and p those of the record
---     answer_of w h c e p   the answer of a call in place that returns w and leaves these places
---     state_of f h c e      the same state without its record, which is lent to no step
+--     whole_of f h c e p   the state with the fields f, where h, c and e are the places of heard, candidates and echoes, and p those of the record
+--     answer_of w h c e p  the answer of a call in place that returns w and leaves these places
+--     state_of f h c e     the same state without its record, which is lent to no step
 --     bare f               the view of the fields f alone, with empty lists
 use Rattle.std.specs.Prelude.{ℕ, List, []}
 use Rattle.controller.specs.State.{View, view, state_from}

@@ -1,8 +1,8 @@
 -- When each number was first heard: document 02, "A8. Show when each section was first heard".
---     first_of x l w        the round that the record w, which stands beside the list l, has for x; 0 where x is not in l
---     first_in s x          the round that the state s has for x
---     firsts_after v w es   the record after a tray with the entries es, from that of the state v, which is w
---     rounds_after s es     the places of the record after a tray with the entries es, from the state s
+--     first_of x l w       the round that the record w, which stands beside the list l, has for x; 0 where x is not in l
+--     first_in s x         the round that the state s has for x
+--     firsts_after v w es  the record after a tray with the entries es, from that of the state v, which is w
+--     rounds_after s es    the places of the record after a tray with the entries es, from the state s
 -- Nothing here is read by a rule of a step.
 use Rattle.std.specs.Prelude.{ℕ, cond, List, [], ◌∷◌, map, eqb}
 use Rattle.wire.specs.Numbers.{listed}

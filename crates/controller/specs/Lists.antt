@@ -2,10 +2,10 @@
 --     In x l           x is in l
 --     Inside l m       whatever is in l is in m
 --     mem x l          x is in l, as a test to count with
---     count_if f l      how many of l pass the test f
+--     count_if f l     how many of l pass the test f
 --     keep f l         those of l that pass the test f
 --     insert x l       the rising list l with x in its place, once
---     insert_all m l    the rising list l with each of m in its place, once
+--     insert_all m l   the rising list l with each of m in its place, once
 --     NoRepeats l      l has no number twice
 --     Rising l         l rises strictly
 use Rattle.std.proofs.Common.{List, [], ◌∷◌}

@@ -1,7 +1,7 @@
 -- What a controller has received in a round: document 01, "From one tray to the next frame", its first two paragraphs, and document 02, "A5. Two different
 -- frames under one number" and "A7. Let decided controllers go quiet".
---     frame_of v            the frame sent with the state v, which has not decided: "the controller's own last frame"
---     stand_in v            what one that is silent counts as having sent: that frame without an opinion
+--     frame_of v           the frame sent with the state v, which has not decided: "the controller's own last frame"
+--     stand_in v           what one that is silent counts as having sent: that frame without an opinion
 --     silent v es x        x was heard before and has no entry among es
 --     Received             who is heard, and the frame had from each
 --     receive v es         what the state v has received with the entries es of a tray: the rules read no entry but by way of this

@@ -1,7 +1,7 @@
 -- Refusals of start and tray: document 01, "Refusals": each number in just its stated case, "a tray is tested 1 to 8; start 9 then 3"; and document 02,
 -- "A7. Let decided controllers go quiet".
---     start_refusal number bit n     0, or the refusal of a start with an output buffer of n bytes
---     tray_refusal s b n             0, or the refusal of the tray b by the state s
+--     start_refusal number bit n    0, or the refusal of a start with an output buffer of n bytes
+--     tray_refusal s b n            0, or the refusal of the tray b by the state s
 use Rattle.std.specs.Prelude.{ℕ, Bool, not, ◌&&◌, List, [], ◌∷◌, leb, ltb, eqb, length}
 use Rattle.wire.specs.Limits.{max_numbers, max_frame, last_round}
 use Rattle.wire.specs.Refusal.{first_failed}

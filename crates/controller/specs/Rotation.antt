@@ -6,9 +6,9 @@
 --     mentioned l            the numbers that some received list has
 --     echoed c l             those that reach a third and were not candidates of the rotor c
 --     joined c l             those that reach two thirds and were not candidates
---     candidates_after c l    the candidates, with those that join
+--     candidates_after c l   the candidates, with those that join
 --     decides u r c l        one that was undecided (u) decides now, in phase r
---     king_after u r c l      the king that it then names
+--     king_after u r c l     the king that it then names
 --     gathered r c           the rotor c after making round 2; hearing h c, after one that changes those heard alone; rotated u r c l, after
 --                            making round 3 + 3r
 use Rattle.std.specs.Prelude.{ℕ, Bool, not, cond, ◌&&◌, List, [], ◌∷◌, ◌++◌, leb, length, get_or}

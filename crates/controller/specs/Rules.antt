@@ -1,8 +1,8 @@
 -- One step, from a tray to the next frame: document 01, "From one tray to the next frame", a definition for each of its four bullets.
---     make_roster v r       making round 2
---     make_value v r        making round 3 + 3r
---     make_propose v r      making round 4 + 3r
---     make_turn v r         making round 5 + 3r
+--     make_roster v r      making round 2
+--     make_value v r       making round 3 + 3r
+--     make_propose v r     making round 4 + 3r
+--     make_turn v r        making round 5 + 3r
 --     step v r             the step of the state v that has received r, by the kind of the frame that is made
 --     next v es            the step with the entries es of a tray
 -- Each step makes the next round, and whoever is heard with the tray is heard from then on. A decided state takes no step: its trays are refused under 2.

@@ -2,14 +2,14 @@
 -- first heard".
 --     View                 the ten things that document 01 lists, as numbers and lists, in parts: all that the rules of a step read
 --     Rotor                what belongs to the coordinator rotation; BitPart, what belongs to the bit
---     state_from ..         the stored state with these fields, lists and places of the record
+--     state_from ..        the stored state with these fields, lists and places of the record
 --     view s               the view of a stored state
---     first_rounds s        its record: beside each number heard, in heard's order, the round of the tray that first brought it
---     stored_state v p      the stored state of the view v, where p are the places of the record; recorded l, the places of the record l
---     start_view n b        the state after a start with number n and bit b; start_rounds, the places of its record
+--     first_rounds s       its record: beside each number heard, in heard's order, the round of the tray that first brought it
+--     stored_state v p     the stored state of the view v, where p are the places of the record; recorded l, the places of the record l
+--     start_view n b       the state after a start with number n and bit b; start_rounds, the places of its record
 --     sound s              the papers' "sound": the rules that they list, and nothing more
---     sound_rules s         the rules of soundness of the ten things
---     sound_beside o l w    those of the record: the places w of the record are in range beside the numbers l, of which o is the own one
+--     sound_rules s        the rules of soundness of the ten things
+--     sound_beside o l w   those of the record: the places w of the record are in range beside the numbers l, of which o is the own one
 --     undecided v          the decision is 2, none
 use Rattle.std.specs.Prelude.{ℕ, Bool, true, false, not, cond, ◌&&◌, List, [], ◌∷◌, leb, ltb, eqb, length, take}
 use Rattle.wire.specs.Frame.{kind_of, bit_fits, round_fits}
@@ -98,7 +98,7 @@ start_view number bit =
 abbrev pub start_rounds : List ℕ
 start_rounds = recorded (0 ∷ [])
 
--- the all_zero state
+-- the all-zero state
 abbrev pub zero_state : State
 zero_state = state_from 0 0 (record { own = 0; said = 0; strong = 0; decision = 0 }) 0 (stored []) (stored []) (stored []) (recorded [])
 

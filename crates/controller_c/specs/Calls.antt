@@ -1,11 +1,11 @@
 -- What a host's call promises, for every input, refused ones too: the page docs/IMAGE.md, "The calls", and document 01, "Refusals".
---     start_image_refusal number bit m n     0, or the refusal of a start with an image of m bytes and an output buffer of n bytes
---     tray_image_refusal b t n               0, or the refusal of the tray t by the image b, with an output buffer of n bytes
+--     start_image_refusal number bit m n   0, or the refusal of a start with an image of m bytes and an output buffer of n bytes
+--     tray_image_refusal b t n             0, or the refusal of the tray t by the image b, with an output buffer of n bytes
 --     ImagePromise k v p ..                the call is refused under k (0: not refused), in which case image and output keep every byte and the
 --                                          length is 0; else the image is that of the state v, with the record whose places are p, v's frame
 --                                          stands in front of what stood in the output, and the length is the frame's
 --     StartImagePromise, TrayImagePromise  the promises of controller_start and of controller_tray
---     field_of b x                          the number x of the image b; 0 where a tray would be refused under 1
+--     field_of b x                         the number x of the image b; 0 where a tray would be refused under 1
 --     HandsOver a n, HandedOver a ..       what is known before the answer a of a call is handed over to an image of n bytes, and what holds after
 use Rattle.std.specs.Prelude.{ℕ, true, cond, List, ◌++◌, ◌≡◌, eqb, length, drop}
 use Rattle.wire.specs.Tray.{entries}

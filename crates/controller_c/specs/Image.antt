@@ -1,19 +1,19 @@
 -- The image of a state, 1,024 bytes that a host keeps: the page docs/IMAGE.md, and document 01, "A controller's state", with document 02's A8.
---     image_bytes, field_own, ..     the image's length and the offsets of its fields
+--     image_bytes, own_at, ..   the image's length and the offsets of its fields
 --     Sized n                   the list n has a count that fits, and its 64 places; SizedRotation f c e, so have candidates and echoes in parts
---     list_bytes n               a list's 260 bytes: its count, then its 64 places
---     zeros_from at              as many zeros as an image has bytes from at on
---     laid_out s                 the bytes of the state s
---     with_rotation s b          the bytes b with candidates and echoes of the state s in their places
---     places_at b at             the 64 places that stand in b from at on
---     list_at b at               the list that stands in b from at on
---     rounds_at b                the record that stands in b
---     taken_apart b              the state in the bytes b
+--     list_bytes n              a list's 260 bytes: its count, then its 64 places
+--     zeros_from at             as many zeros as an image has bytes from at on
+--     laid_out s                the bytes of the state s
+--     with_rotation s b         the bytes b with candidates and echoes of the state s in their places
+--     places_at b at            the 64 places that stand in b from at on
+--     list_at b at              the list that stands in b from at on
+--     rounds_at b               the record that stands in b
+--     taken_apart b             the state in the bytes b
 --     zeros l                   each number of l is 0
 --     shaped b                  the bytes are as many as an image has, and the reserved ones are 0
---     sound_image b              so they are, and the state in them is sound
---     renewed_heard k s b        the bytes b with heard and the record of s in their places, where those heard are not k
---     renewed_rotation s b       the bytes b with candidates and echoes of s in their places, where s's round is that of a roster or a value
+--     sound_image b             so they are, and the state in them is sound
+--     renewed_heard k s b       the bytes b with heard and the record of s in their places, where those heard are not k
+--     renewed_rotation s b      the bytes b with candidates and echoes of s in their places, where s's round is that of a roster or a value
 --     LaysOver k s b            what is known before a step's changes are stored over b: s is the state made, and k were heard before
 use Rattle.std.specs.Prelude.{ℕ, ◌+◌, ◌-◌, ◌≤◌, ◌<◌, Bool, true, cond, ◌&&◌, List, [], ◌∷◌, ◌++◌, ◌≡◌, eqb, leb, length, get_or, drop, replicate}
 use Rattle.std.proofs.lemmas.List.Edits.{sets}
@@ -31,8 +31,8 @@ use Rattle.controller_c.specs.Words.{number_at, number_bytes, numbers_at, number
 abbrev pub image_bytes : ℕ
 image_bytes = 1024
 
-abbrev pub field_own : ℕ
-field_own = 0
+abbrev pub own_at : ℕ
+own_at = 0
 
 abbrev pub round_at : ℕ
 round_at = 4
@@ -124,7 +124,7 @@ rounds_at b = slice since_at reserved_at b
 abbrev pub taken_apart : List ℕ → State
 taken_apart b =
     record {
-      own = number_at b field_own;
+      own = number_at b own_at;
       round = number_at b round_at;
       bit = get_or b own_bit_at 0;
       said = get_or b said_at 0;

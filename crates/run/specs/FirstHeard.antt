@@ -1,7 +1,7 @@
 -- What is claimed of every list of calls from a start, worked trays and refused ones of any bytes: document 02, "A8. Show when each section was first heard".
 --     heard s              those heard in the state s
 --     Brought x ks         a tray of ks was worked that has an entry under x
---     first_brought x ks    the round of the first such tray; 0 where there is none
+--     first_brought x ks   the round of the first such tray; 0 where there is none
 --     FirstHeard c         the claim, of each state that the controller c's calls return
 use Rattle.std.specs.Prelude.{ℕ, cond, ◌&&◌, List, [], ◌∷◌, ◌++◌, ◌⊎◌, ◌↔◌, ◌≡◌, eqb}
 use Rattle.controller.specs.Bytes.{round_of, entries}

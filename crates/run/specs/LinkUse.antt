@@ -1,13 +1,13 @@
 -- What is claimed of every list of calls from a start, worked trays and refused ones of any bytes: document 02, "A13. Link use of a run".
 --     answered ks     what the calls ks answer, in order
 --     answers c       what the controller c's calls answer, the start's first
---     bytes_of l       what the lengths in the answers l add up to
---     bytes_sent c     that of all answers of c
---     sent_in t a      the length in the answer a where it has a state of round t, else 0
---     bytes_in c t     what these of all answers of c add up to
+--     bytes_of l      what the lengths in the answers l add up to
+--     bytes_sent c    that of all answers of c
+--     sent_in t a     the length in the answer a where it has a state of round t, else 0
+--     bytes_in c t    what these of all answers of c add up to
 --     longest n t     the length of a frame of round t, whose list, if it has one, is of n numbers
 --     headers n       how many frames are sent at most where nothing is from round 3 + 3n on; full_lists n, how many of these have a list
---     link_limit n     the bytes of so many headers, and of so many lists of n numbers
+--     link_limit n    the bytes of so many headers, and of so many lists of n numbers
 --     LinkUse n c     the claim, with n = 64 of every controller, and of those in a run of n controllers with this n
 use Rattle.std.proofs.Common.{List, ◌∷◌, map}
 use Rattle.std.specs.Prelude.{ℕ, ◌+◌, ◌*◌, ◌≤◌, cond, eqb, ltb}

@@ -2,7 +2,7 @@
 --     Place                    where a slice lies that is lent to a call; no promise speaks of it
 --     TrayCall, StartCall      a call with what went in and what came out, and that what its contract ensures holds of them
 --     Controller               a proper controller's list of calls
---     state_after s ks          the state that the last of the calls ks returned; s where there is none
+--     state_after s ks         the state that the last of the calls ks returned; s where there is none
 --     Made k t b               the call k made round t and gave the frame b
 --     Sent c t b               b is the frame that c sent for round t
 --     Delivers l f p t b       the line's guarantee for a tray b of round t to the controller p, among the proper ones l and the faulty ones f

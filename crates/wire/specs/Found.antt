@@ -1,6 +1,6 @@
 -- The frames under one number: document 02, "A5. Two different frames under one number".
---     frames_under x es       the frames of the entries under the number x, in the directory's order; one of length 0 is a frame too
---     same_bytes a b          a and b are the same bytes
+--     frames_under x es      the frames of the entries under the number x, in the directory's order; one of length 0 is a frame too
+--     same_bytes a b         a and b are the same bytes
 --     Under                  what entries have under a number: nothing; one frame, of which there may be copies; or several that differ
 --     under x es             which of these the entries es have under the number x
 --     found s x              the code's answer to that for the tray s: where the frame lies, and of equal copies the first

@@ -1,16 +1,16 @@
 -- Frames: document 01, "Frames", and the reader's and writer's rows of "Refusals"; the reader's as request A2 of document 02 has them.
---     kind_of t                  the kind of a frame of round t
---     kind_said, bit_said         the paper's kind and bit of each case of `Said`; bit_chosen, of each case of `Choice`
---     said_by k b                what a frame of kind k with bit b says
---     bit_fits, max_count         the layout table's rows for the bit and the count, by kind
+--     kind_of t                 the kind of a frame of round t
+--     kind_said, bit_said       the paper's kind and bit of each case of `Said`; bit_chosen, of each case of `Choice`
+--     said_by k b               what a frame of kind k with bit b says
+--     bit_fits, max_count       the layout table's rows for the bit and the count, by kind
 --     Content                   what a frame holds: its round, what it says, its numbers
---     read_refusal s t           0, or why the bytes s are void for round t: 11, 12 or 13
+--     read_refusal s t          0, or why the bytes s are void for round t: 11, 12 or 13
 --     content s t               the content of the bytes s, read in round t, if they have one
---     count_of s                 how many numbers the bytes s list; 0 where they have no header
+--     count_of s                how many numbers the bytes s list; 0 where they have no header
 --     number_read r, frame_read r the papers' number of each answer of the reader, and its frame, if it has one
---     frame_in o                 the frame of a content, without its list; bit_in o, the bit that a content says; 3 for none
---     write_refusal c n          0, or the refusal for content c and an output buffer of n bytes: 10, then 3
---     frame_bytes c              the bytes of content c
+--     frame_in o                the frame of a content, without its list; bit_in o, the bit that a content says; 3 for none
+--     write_refusal c n         0, or the refusal for content c and an output buffer of n bytes: 10, then 3
+--     frame_bytes c             the bytes of content c
 -- Bytes of a list are numbers below 256.
 use Rattle.std.specs.Prelude.{ℕ, ◌+◌, ◌*◌, ◌%◌, Bool, true, cond, ◌&&◌, List, [], ◌∷◌, ◌++◌, ◌≡◌, leb, eqb, length, get_or, drop}
 use Rattle.std.proofs.Math.Option.{Option, some, none}

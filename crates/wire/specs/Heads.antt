@@ -1,9 +1,9 @@
 -- Words for read.rt: the eight bytes of a header as one number, so that one comparison tells what a frame without a list says. They are no part of the
 -- papers: the laws tie them to `content`.
 --     Short t         a round whose frames say a bit and list nothing: values and proposals
---     head_at s at     the number in the eight bytes of s from at on
---     head_from s at   the same; 0 where s ends before them
---     head_of t b      the header of a frame of round t that says the bit b and lists nothing
+--     head_at s at    the number in the eight bytes of s from at on
+--     head_from s at  the same; 0 where s ends before them
+--     head_of t b     the header of a frame of round t that says the bit b and lists nothing
 use Rattle.std.specs.Prelude.{ℕ, ◌+◌, ◌*◌, ◌≤◌, true, cond, List, ◌≡◌, leb, length}
 use Rattle.wire.specs.Limits.{frame_header}
 use Rattle.wire.specs.Words.{word_at}

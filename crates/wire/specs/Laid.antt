@@ -1,6 +1,6 @@
 -- Words for write.rt: a frame's bytes by its round, its bit and its numbers. They are no part of the papers: the laws tie them to `frame_bytes`.
---     laid_bytes t b l                  the bytes of a frame of round t with the bit b and the numbers l, whether or not that is one
---     lays_in l n                       the numbers l are no more than a frame may list, and a buffer of n bytes has room for the longest frame
+--     laid_bytes t b l                 the bytes of a frame of round t with the bit b and the numbers l, whether or not that is one
+--     lays_in l n                      the numbers l are no more than a frame may list, and a buffer of n bytes has room for the longest frame
 --     FrameLays t b l given r left     what `lay_frame` promises of its answer r and of the buffer, as it is given and as it is left
 use Rattle.std.specs.Prelude.{ℕ, Bool, cond, ◌&&◌, List, ◌++◌, ◌≡◌, leb, length, drop}
 use Rattle.wire.specs.Limits.{max_numbers, max_frame}

@@ -1,9 +1,9 @@
 -- Words for found.rt: what is found, kept as one number while a directory is gone along. They are no part of the papers: the laws tie them to `found`.
 -- A note is a place, offset and length in one word, or one of two small numbers, since no frame begins so far in front.
---     found_by k              what a note says
---     same_frames s j k       two notes of one frame each, which lie in the tray s and have the same bytes
---     note_with s k p         the note k, once a frame at the place p is met under the same number
---     note_from s x n i       the note on x that the n entries from entry i on give, from the last one of them to the first
+--     found_by k             what a note says
+--     same_frames s j k      two notes of one frame each, which lie in the tray s and have the same bytes
+--     note_with s k p        the note k, once a frame at the place p is met under the same number
+--     note_from s x n i      the note on x that the n entries from entry i on give, from the last one of them to the first
 use Rattle.std.specs.Prelude.{ℕ, zero, suc, ◌+◌, ◌/◌, ◌%◌, Bool, false, cond, ◌&&◌, List, leb, eqb, length}
 use Rattle.wire.specs.Tray.{sender, place, part}
 use Rattle.wire.specs.Found.{same_bytes}

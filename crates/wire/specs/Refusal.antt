@@ -1,5 +1,5 @@
 -- Refusals: document 01, "Refusals", where a call's tests stand in a fixed order.
---     first_failed ts     the number of the first test of ts that fails, 0 where all pass
+--     first_failed ts    the number of the first test of ts that fails, 0 where all pass
 use Rattle.std.specs.Prelude.{ℕ, Bool, cond, List, [], ◌∷◌}
 
 abbrev pub first_failed : List (Bool × ℕ) → ℕ

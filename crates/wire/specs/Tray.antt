@@ -1,9 +1,9 @@
 -- Trays: document 01, "Trays".
---     well_formed s            the paper's "well packed"
---     round_of s               the round in which the tray's frames were sent
---     entry_count s            how many entries the tray says it has
+--     well_formed s           the paper's "well packed"
+--     round_of s              the round in which the tray's frames were sent
+--     entry_count s           how many entries the tray says it has
 --     directory s             the entries' bytes; no bytes where they run past the end
---     word_of d i at           the word at `at` of entry i of the directory d; 0 where there is no such entry
+--     word_of d i at          the word at `at` of entry i of the directory d; 0 where there is no such entry
 --     sender s i, place s i   the sender of entry i, and where its frame lies: offset and length in one word
 --     part s o n              the n bytes from o on; no bytes where they run past the end
 --     entries s               the tray as a list of entries: who sent, and the bytes

@@ -1,7 +1,7 @@
 -- Document 01, "Trials": the starred ones on frames, as rows of a table that a crate above can take into its own.
 --     FrameTrial      bytes, the round in which they are read, and their content, or none and the number of the cause where they are void
 --     FrameHolds      what a row claims: that `content` and `read_refusal`, which the reader's promise cites, are just that
---     frame_trials     the rows
+--     frame_trials    the rows
 --     All P l         each member of l has P
 use Rattle.std.specs.Prelude.{ℕ, List, [], ◌∷◌, ◌≡◌}
 use Rattle.std.proofs.Math.Option.{Option, some, none}

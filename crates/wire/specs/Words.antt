@@ -1,8 +1,8 @@
 -- Big-endian numbers in lists of bytes: document 01, "Frames", "Multi-byte fields are big-endian".
---     half_at s at, word_at s at       the number in the two or four bytes of s from at on (bytes past the end count as 0)
---     half_bytes x, word_bytes x       the bytes of a number below 2 ^ 16 or 2 ^ 32
---     words_at s at n                 the n numbers of four bytes that stand one after the other from at on
---     words_bytes l                   the bytes of the numbers of l, one after the other
+--     half_at s at, word_at s at     the number in the two or four bytes of s from at on (bytes past the end count as 0)
+--     half_bytes x, word_bytes x     the bytes of a number below 2 ^ 16 or 2 ^ 32
+--     words_at s at n                the n numbers of four bytes that stand one after the other from at on
+--     words_bytes l                  the bytes of the numbers of l, one after the other
 --     Below k l                      each number of l is below k: Below 256 s says that s is made of bytes
 use Rattle.std.specs.Prelude.{ℕ, zero, suc, ◌+◌, ◌*◌, ◌/◌, ◌%◌, ◌<◌, List, [], ◌∷◌, ◌++◌, get_or}
 

@@ -53,7 +53,7 @@ impl<C: Calls> Sender<C> {
 pub const BUSIEST: u32 = 64;
 
 /// The tray of a round, of those that make controller 64 send all that it may, whatever
-/// its bit: those of `FullLists` in `crates/run/specs/Inhabitants`.
+/// its bit: those of `FullLists` in `crates/run/proofs/Inhabitants`.
 ///
 /// - Round 1: 1 to 63 send init, so the roster has 64 numbers.
 /// - Round 2: all are silent, which counts as the own roster. So the 64 are candidates, and

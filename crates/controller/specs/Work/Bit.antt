@@ -1,6 +1,6 @@
 -- Words for bit.rt: the bit, from counts. They are no part of the rules: the laws tie them to the rules' words.
---     proposed_from z o h       the bit whose values, z and o of h, reach two thirds
---     adopted_from b z o h      the own bit b, or the only bit whose proposals, z and o of h, reach a third
+--     proposed_from z o h      the bit whose values, z and o of h, reach two thirds
+--     adopted_from b z o h     the own bit b, or the only bit whose proposals, z and o of h, reach a third
 --     TurnsBit v r t           t has the bit, strong and said that making round 5 + 3r gives, where r was received
 --     Turns f n h t            so it is with each state whose fields are f and which has not decided, where n has the counts of proposals among h
 use Rattle.std.specs.Prelude.{ℕ, true, not, cond, ◌&&◌, List, ◌≡◌, length}

@@ -1,5 +1,5 @@
 -- Words for calls.rt: what a call has passed, and what it sends. They are no part of the rules: the laws tie them to the rules' words.
---     early_tests s b n         the tests 1 to 5; early_refusal s b n, 0, or the number of the first of them that fails
+--     early_tests s b n        the tests 1 to 5; early_refusal s b n, 0, or the number of the first of them that fails
 --     Checked s b n            what a tray has passed before its senders are looked at: tests 1 to 5
 --     Sends v given r left     r is the length of the frame that is sent with v, and it stands in front of what stood in the buffer
 --     LastTest                 what is promised where only test 8 is left, and those heard stay as they are

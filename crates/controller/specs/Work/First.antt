@@ -1,8 +1,8 @@
 -- Words for first.rt: the record beside those heard. They are no part of the rules: the laws tie them to the rules' words.
---     is_zero t             t is 0, no round
+--     is_zero t            t is 0, no round
 --     timely w             no round of w is past the last that can be worked
 --     RoundsSound n i w r  r says whether a record with the places w is sound beside any n rising numbers, where the one at place i is the own one
---     moved_to l m t w      the places w of the record beside l, moved to beside m: a number that is not in l has the round t
+--     moved_to l m t w     the places w of the record beside l, moved to beside m: a number that is not in l has the round t
 --     Grown n m            two lists in their stored form, of which the second has all that the first has
 use Rattle.std.specs.Prelude.{ℕ, Bool, true, cond, ◌&&◌, List, [], ◌∷◌, ◌++◌, map, ◌≡◌, ltb, eqb, length, get_or, drop}
 use Rattle.wire.specs.Limits.{last_round}

@@ -1,12 +1,12 @@
 -- Words for heads.rt: the lists' heads, in a tree. They are no part of the rules: the laws tie them to the rules' words.
 --     Readable w b s n j         list j can be read, where s and n have their sizes
 --     slots                      how far the keys of two numbers are apart
---     key_of j y                  number y in list j, as one number: the order of keys is that of numbers
+--     key_of j y                 number y in list j, as one number: the order of keys is that of numbers
 --     Stands l j x k p i         list l, as list j, is passed up to x: k is the key of its first number not below x, p that of the one behind it, at place i
 --     Standing w b s n m x t p i    so it is with each of the m open lists; the key of list j is leaf m + j of the tree t
 --     Moves l m j t p i k ..     list j of m, l, is moved on: the key k that was behind its head is its leaf now, and the one behind k is read
---     lesser_of x y               the lesser of two keys
---     sibling_of i                the node that has the same node above it as node i
+--     lesser_of x y              the lesser of two keys
+--     sibling_of i               the node that has the same node above it as node i
 --     Ordered t m                each inner node of the tree t, which has m leaves, is the lesser of the two below it
 --     Passes w b s n c m x r ..  what passing x makes: r has how many sent a list with x, and the first key then
 use Rattle.std.specs.Prelude.{ℕ, ◌+◌, ◌-◌, ◌*◌, ◌/◌, ◌%◌, ◌<◌, ◌≤◌, cond, List, ◌≡◌, ltb, eqb, length, get_or, set}

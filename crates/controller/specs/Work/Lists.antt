@@ -1,8 +1,8 @@
 -- Words for lists.rt: a rising list in its places. They are no part of the rules: the laws tie them to the rules' words.
---     in_places n l             the stored list of n numbers whose places are l
+--     in_places n l            the stored list of n numbers whose places are l
 --     below x l                how many of l are below x: the place where x stands, or belongs, in a rising list
---     found_in x l              the place of x in the rising list l; where it is not in l, the place where it belongs, and `absent` more
---     inserted_at i x l         l with x at place i
+--     found_in x l             the place of x in the rising list l; where it is not in l, the place where it belongs, and `absent` more
+--     inserted_at i x l        l with x at place i
 --     opened i x n s           the places s of a list of n numbers with x put in at place i: the numbers from there on stand one place further
 use Rattle.std.specs.Prelude.{ℕ, ◌+◌, cond, List, ◌∷◌, ◌++◌, ltb, take, drop}
 use Rattle.std.proofs.Math.Seq.{slice}

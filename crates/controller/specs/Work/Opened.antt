@@ -1,15 +1,15 @@
 -- Words for opened.rt: the received lists, where they lie. They are no part of the rules: the laws tie them to the rules' words.
 --     total f n                  the sum of f 0 to f (n - 1)
---     end_mark                    above every number: what stands behind a list's last one
---     max_lists                   the own list, and one for each number heard
+--     end_mark                   above every number: what stands behind a list's last one
+--     max_lists                  the own list, and one for each number heard
 --     SpanOf b l o n             the list l has n numbers that lie in the tray b from o on
---     list_from w b j o n         open list j of n numbers: the own one, the first places of w, for j = 0, else the one that lies in the tray b from o on
---     open_list w b s n j         the same, where s has where each list starts, and n how many numbers it has
+--     list_from w b j o n        open list j of n numbers: the own one, the first places of w, for j = 0, else the one that lies in the tray b from o on
+--     open_list w b s n j        the same, where s has where each list starts, and n how many numbers it has
 --     Lies w b j o n             such a list can be read
 --     Opens w b s n c m          what is known of the m open lists, each sent by as many controllers as c says: they rise, and can be read
 --     weighed w b s n c m x      how many sent one of them that has x
---     list_under t l b k          the list of the frame that the note k is of, read in round t; the own list l where it is of none
---     noted_list f e b t j        the list received with note j of t; f are the state's fields and e the places of its echoes
+--     list_under t l b k         the list of the frame that the note k is of, read in round t; the own list l where it is of none
+--     noted_list f e b t j       the list received with note j of t; f are the state's fields and e the places of its echoes
 --     having l h x               how many of the lists l 0 to l (h - 1) have x
 --     Recalls t w b s n m k j    open list j, one of m, is the list of the note k
 --     Placeable t w b s n m k j  there is room for one list more behind the m open ones, of which list j is that of the note k

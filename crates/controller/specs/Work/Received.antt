@@ -1,22 +1,22 @@
 -- Words for received.rt: who is heard, and what is had from each. They are no part of the rules: the laws tie them to the rules' words.
---     noted b k                what the note k says of the tray b
---     others_only o l           neither 0 nor o is in l
---     heard_after b l           those heard, l, with the senders of the tray b
---     senders_from b i          the senders of the tray b from entry i on; note_on b x i, the note on x that these entries give
---     HearsFrom o b l n f i    from l, the list n are those heard with the senders from entry i on, none of which is 0 or the own number o, and f has a note on
---                              each of them
---     Hears o b l r at f       r is at most 64 exactly if the senders of the tray b fit, o being the own number, and at most 64 are then heard; if so, the
---                              list of r numbers with the places at is the stored form of those, and f has a note on each of them
---     received_by s b           what the state s has received with the tray b
---     Ready s b f              what a step finds: a state s that has not decided and is sound, but for its record, a tray b whose senders are all heard and
---                              none is oneself, and in f a note on each number heard; the own number's, like that of one that is silent, is none
---     WhereReady f h b t P     P holds of each state with the fields f, where h are those heard, and of the tray b, if it is ready
---     AnyReady f b t P         the same, whoever is heard
---     bit_under t d b k         the bit of the frame that the note k is of, read in round t; d where it is of none, 3 where it is of a void frame or of several
---     Votes t d b k r          r is the header of a frame of round t that says that bit, where it is 0 or 1, and of neither such frame where it is not
---     CountsBits k r n         n has how many of those heard sent each bit in a frame of kind k, where r was received
---     CountsFew h n            neither count is above h
---     sent_count f              how many numbers the own frame lists
+--     noted b k              what the note k says of the tray b
+--     others_only o l        neither 0 nor o is in l
+--     heard_after b l        those heard, l, with the senders of the tray b
+--     senders_from b i       the senders of the tray b from entry i on; note_on b x i, the note on x that these entries give
+--     HearsFrom o b l n f i  from l, the list n are those heard with the senders from entry i on, none of which is 0 or the own number o, and f has a note on
+--                            each of them
+--     Hears o b l r at f     r is at most 64 exactly if the senders of the tray b fit, o being the own number, and at most 64 are then heard; if so, the
+--                            list of r numbers with the places at is the stored form of those, and f has a note on each of them
+--     received_by s b        what the state s has received with the tray b
+--     Ready s b f            what a step finds: a state s that has not decided and is sound, but for its record, a tray b whose senders are all heard and
+--                            none is oneself, and in f a note on each number heard; the own number's, like that of one that is silent, is none
+--     WhereReady f h b t P   P holds of each state with the fields f, where h are those heard, and of the tray b, if it is ready
+--     AnyReady f b t P       the same, whoever is heard
+--     bit_under t d b k      the bit of the frame that the note k is of, read in round t; d where it is of none, 3 where it is of a void frame or of several
+--     Votes t d b k r        r is the header of a frame of round t that says that bit, where it is 0 or 1, and of neither such frame where it is not
+--     CountsBits k r n       n has how many of those heard sent each bit in a frame of kind k, where r was received
+--     CountsFew h n          neither count is above h
+--     sent_count f           how many numbers the own frame lists
 use Rattle.std.specs.Prelude.{ℕ, ◌-◌, ◌<◌, ◌≤◌, Bool, true, cond, not, ◌&&◌, List, ◌≢◌, ◌≡◌, leb, ltb, eqb, length, get_or}
 use Rattle.wire.specs.Limits.{max_numbers}
 use Rattle.wire.specs.Numbers.{stored, listed}

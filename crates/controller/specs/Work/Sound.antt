@@ -1,8 +1,8 @@
 -- Words for sound.rt: soundness in the order in which it is tested. They are no part of the rules: the laws tie them to the rules' words.
---     empty_sound f         candidates have no used place in rounds 1 and 2, echoes have none in round 1
---     bits_sound f          the bit, strong and the decision are in range
---     fields_sound f        what soundness asks of all but the own number and the lists' numbers
---     lists_sound s         the three lists of s are in their stored form
+--     empty_sound f        candidates have no used place in rounds 1 and 2, echoes have none in round 1
+--     bits_sound f         the bit, strong and the decision are in range
+--     fields_sound f       what soundness asks of all but the own number and the lists' numbers
+--     lists_sound s        the three lists of s are in their stored form
 use Rattle.std.specs.Prelude.{Bool, ◌&&◌, ◌||◌, leb, ltb, eqb}
 use Rattle.wire.specs.Frame.{round_fits}
 use Rattle.controller.specs.Fields.{bare}

@@ -1,7 +1,7 @@
 -- Words for step.rt: the state that a step makes. They are no part of the rules: the laws tie them to the rules' words.
 --     Due k s b f              the state s is ready for the tray b, and a frame of kind k is to be made
 --     Grows s b f l d c e      what the making of round 3 + 3r has made of the state s before (c): these lists, and the bit d
---     named_state n r           the state n with what (c) gives in phase r: the king, or the decision, with which nothing is said any more
+--     named_state n r          the state n with what (c) gives in phase r: the king, or the decision, with which nothing is said any more
 --     Makes s b r t            r says whether the lists of the state that the step makes of s fit; if so, t is that state, else t is s
 --     MakesEchoes, MakesFields, MakesParts, MakesGrown    the same of a state in parts
 --     MakesCounted k f n r     r are the fields that the step makes of each state with the fields f that is ready to make a frame of the kind after k, where n

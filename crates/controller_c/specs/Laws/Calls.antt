@@ -2,7 +2,7 @@
 --     shaped_refusal, unshaped_refusal       how the image's tests and the controller's give one refusal
 --     start_makes, tray_makes                the state that an accepted call makes is sound
 --     start_makes_image, tray_makes_image    so is the image that it leaves
---     laid_out_refusal                        the image of a sound state is refused a tray just where the state is
+--     laid_out_refusal                       the image of a sound state is refused a tray just where the state is
 use Rattle.std.specs.Prelude.{ℕ, Bool, true, false, cond, List, ◌≡◌, refl}
 use Rattle.std.proofs.Common.{sym}
 use Rattle.wire.specs.Tray.{entries}

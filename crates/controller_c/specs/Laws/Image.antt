@@ -1,7 +1,7 @@
 -- Laws of images: laying out and taking apart are inverse to each other on sound states.
---     taken_apart-laid_out     a sound state is what its image is taken apart to
---     laid_out-taken_apart     a sound image is what the state in it is laid out to
---     laid_out-sound          the image of a sound state is sound
+--     taken_apart-laid_out   a sound state is what its image is taken apart to
+--     laid_out-taken_apart   a sound image is what the state in it is laid out to
+--     laid_out-sound         the image of a sound state is sound
 use Rattle.std.specs.Prelude.{ℕ, zero, suc, ◌+◌, ◌*◌, ◌-◌, ◌≤◌, ◌<◌, true, ◌≡◌, eqb, take, drop, replicate}
 use Rattle.std.proofs.Math.Bool.{and-eq-true_iff}
 use Rattle.std.proofs.Math.Path.{refl, sym, ap}

@@ -1,8 +1,8 @@
 -- Laws of calls, from their promises alone: what a call that works gives, and what holds along a controller's list.
 --     Returns v p a after      the answer a and the buffer `after` are those of a call that made the state v: its stored form, with the record whose
 --                              places are p, and its frame in front
---     received_with k         what is received with a tray by the state it is handed over with
---     made_by k               the state that a tray makes of the state it is handed over with
+--     received_with k        what is received with a tray by the state it is handed over with
+--     made_by k              the state that a tray makes of the state it is handed over with
 --     returned ks            the states that the calls ks return
 --     FirstDecided u s ks    the list of states split at the first with a decision
 use Rattle.std.specs.Prelude.{ℕ, suc, ◌+◌, ◌*◌, ◌≤◌, ◌<◌, true, false, List, [], ◌∷◌, ◌++◌, map, ◌⊎◌, ◌≢◌, ◌≡◌, refl, eqb, length, take}

@@ -1,8 +1,8 @@
 -- What a proper controller has in each round, looked up in its list of calls.
 --     lookup f g d l         g of the first of l that passes the test f, d where none does
 --     AtRound t s            s is of round t, or of an earlier one and decided
---     state_in t c            c's state of round t, or the one with which it decided before
---     received_of t c         what c had received with the tray of round t that it worked
+--     state_in t c           c's state of round t, or the one with which it decided before
+--     received_of t c        what c had received with the tray of round t that it worked
 use Rattle.std.specs.Prelude.{ℕ, ◌≤◌, Bool, true, false, not, cond, ◌&&◌, ◌||◌, List, [], ◌∷◌, ◌⊎◌, ◌≡◌, refl, eqb, leb}
 use Rattle.std.proofs.Common.{true≢false, inl, inr, ◌∙◌, subst, arith, eqb-true, eq-eqb, leb-true, le-leb}
 use Rattle.std.proofs.Math.Bool.{and-eq-true_iff, or-true}

@@ -1,6 +1,6 @@
 -- Why a controller sends no more than so much: each call sends at most what its round allows, and no round is made twice.
 --     figure         the limit is 18,192
---     up_to n t       what the longest frames of the rounds 1 to t come to
+--     up_to n t      what the longest frames of the rounds 1 to t come to
 --     Bounded n c    an undecided state of the controller c is of a round up to 2 + 3n, and its list has at most n numbers
 --     reached t u    what may have been sent in round t once round u is made
 --     allowed s      what may have been sent in all once a call returns s: in the rounds up to that of s, or in all of them if s has decided

@@ -1,6 +1,6 @@
 -- Steps of the published rules are a bit instance over their coordinator rotation.
 -- Serves document 01's "The run of demand 3".
---     bit_of k o         the bit of a received frame of kind k, 2 for anything else
+--     bit_of k o        the bit of a received frame of kind k, 2 for anything else
 --     bits S            the bit instance
 --     bit_rules S K     it keeps the rules of a bit instance
 --     first_value S K   the first value sent is the bit brought in

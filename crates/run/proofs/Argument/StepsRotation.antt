@@ -1,8 +1,8 @@
 -- Steps of the published rules are a coordinator rotation.
 -- Serves document 01's "The run of demand 3".
---     turn_round r          round 2 + 3r, whose frames are rosters or turns; value_round r and propose_round r, the two after it
+--     turn_round r         round 2 + 3r, whose frames are rosters or turns; value_round r and propose_round r, the two after it
 --     entering S p r       p's state of the last value round, or of round 2: the one whose lists and decision p enters phase r with
---     had_from S p t s      the frame that p has from s in its tray of round t
+--     had_from S p t s     the frame that p has from s in its tray of round t
 --     rotation S           the rotation; at work are those who have not decided
 --     rotation_rules S K   it keeps the rules of a rotation
 use Rattle.std.proofs.lemmas.Bool.{not-true, not-false}

@@ -3,10 +3,10 @@
 --     members                64 numbers, the own one, 64, among them; all are heard from the first tray on
 --     strangers              64 others, which nobody has
 --     speakers               just a third of the members: 22
---     entries_in r            what the tray of round 2 + 3r has, whose lists phase r counts: the same frame, frame_in r, from each of senders_in r
+--     entries_in r           what the tray of round 2 + 3r has, whose lists phase r counts: the same frame, frame_in r, from each of senders_in r
 --     phases r n             the trays of the n phases from r on, those between the rounds of lists empty
 --     busiest                the controller that gets these; limit_met, that it sends so much
---     candidates_in r         the candidates before phase r; echoes_in r, the echoes; spoken r, what the speakers list in that phase
+--     candidates_in r        the candidates before phase r; echoes_in r, the echoes; spoken r, what the speakers list in that phase
 --     voices, Becomes        how many lists have a number, and what comes of it
 -- In phase 0 all others are silent, which counts as the own list: all the members become candidates, and with 64 of them there is no decision before phase
 -- 64. In phase 1 the speakers list the strangers, a third: these are echoed. After that the speakers send void frames and the others are silent, so the own

@@ -1,6 +1,6 @@
 -- Three runs: nobody need wonder whether the conditions of `Run` contradict each other, or whether more could be claimed of one mind.
 --     alone           one controller
---     one_faulty       document 01's last trial
+--     one_faulty      document 01's last trial
 --     apart           a faulty one makes the proper ones stop at different rounds
 --     Has r f         some proper one of the run r has a call that passes f; of these `faulty_short` and the like speak
 --     apart_tight     in the run `apart` no more phases are of one mind than there are proper ones

@@ -1,5 +1,5 @@
 -- Calls worked out from the definitions: what an example of a run is made with.
---     start_call, tray_call     a call whose answer and buffer are just what its promise says
+--     start_call, tray_call   a call whose answer and buffer are just what its promise says
 --     Input                   a tray, and how large the output buffer is that comes with it
 --     played s is             the calls on the inputs is, each with the state that the call before it returned, the first with s
 --     controller n b e is     the controller with number n and bit b that gets the inputs is; e: the number and the bit are fit for a start

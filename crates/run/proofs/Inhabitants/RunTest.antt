@@ -1,10 +1,10 @@
 -- A test that says of lists of calls that they are a run: each condition of `Network` and `Run` as a Bool, so that for given lists the machine works it out.
---     all_pass f l, some_pass f l     all of l pass the test f; some of l pass it
---     differ_test l                  l has no number twice
---     sent_test c t b                c sent the frame b for round t
---     delivers_test l f p t b        the tray b of round t to p keeps the guarantee
---     network_test l f               the proper ones l and the faulty ones f make a network
---     run_test l f                   and a run: few are faulty
+--     all_pass f l, some_pass f l   all of l pass the test f; some of l pass it
+--     differ_test l                 l has no number twice
+--     sent_test c t b               c sent the frame b for round t
+--     delivers_test l f p t b       the tray b of round t to p keeps the guarantee
+--     network_test l f              the proper ones l and the faulty ones f make a network
+--     run_test l f                  and a run: few are faulty
 use Rattle.std.specs.Prelude.{ℕ, ◌+◌, ◌*◌, ◌≤◌, Bool, true, false, not, ◌&&◌, ◌||◌, List, [], ◌∷◌, ◌≢◌, ◌≡◌, refl, eqb, leb, ltb, length}
 use Rattle.std.proofs.Common.{true≢false, inl, inr, sym, ap, ◌∙◌, subst, eqb-true, eq-eqb, ne_eqb, leb-true, ltb-true, le-ltb}
 use Rattle.std.proofs.Math.Bool.{and-eq-true_iff, or-true}

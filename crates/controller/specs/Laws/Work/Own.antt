@@ -129,11 +129,11 @@ module _ (l : List ℕ) (k h : ℕ) (c : List ℕ) where
         settles_on count h c pos x z low (λ y from to. absent y (out_mem l (between y from to))) p.settles
       where
         between : (y : ℕ) → p.bound ≤ y → y < get_or l i 0 → ¬ In y l
-        between y from to in_List =
+        between y from to in_list =
             let least = below_more p.bound y l from in
             let most = below_within y l i up inside (omega arith) in
             let same : below y l ≡ i = omega (arith, p.place) in
-            let here : get_or l i 0 ≡ y = rw same at (rising_place y l up in_List) in
+            let here : get_or l i 0 ≡ y = rw same at (rising_place y l up in_list) in
             absurd (omega arith)
 
     pub passed_on : i < length l → Settles count h c (get_or l i 0 + 1) e s r → Passed (i + 1) e s r
