@@ -89,8 +89,7 @@ fn hear_new(
     notes: &mut [u32; MAX_NUMBERS],
 ) -> usize
     requires { (well_formed tray.now ≡ true) × HearsFrom own tray.now (listed (in_places len heard.old)) (in_places len heard.old) notes.old left }
-    ensures { Hears own tray.now (listed (in_places len heard.old)) result heard.new notes.new
-        × (result ≤ len → heard.new ≡ heard.old) }
+    ensures { Hears own tray.now (listed (in_places len heard.old)) result heard.new notes.new × (result ≤ len → heard.new ≡ heard.old) }
 {
     let entries = directory(tray);
     let mut n = len;

@@ -16,8 +16,8 @@ use Rattle.controller.specs.Examples.{Session, LateJoiner}
 
 pub session_printed : Session
 unfolding kind_of chosen_by said_by bit_fits max_count round_fits round_of entry_count well_formed entries third two_thirds sound_rules sound_beside sound
-    frame_of stand_in receive firsts_after roster tally mentioned echoed joined candidates_after decides king_after bit_taken decision_after value_said value_two_thirds
-    proposal_third proposal_two_thirds proposal bit_adopted strong_after opinion step start_refusal tray_refusal
+    frame_of stand_in receive firsts_after roster tally mentioned echoed joined candidates_after decides king_after bit_taken decision_after value_said
+    value_two_thirds proposal_third proposal_two_thirds proposal bit_adopted strong_after opinion step start_refusal tray_refusal
 session_printed = record { start_accepted = refl; trays_accepted = refl; printed = refl }
 
 -- 5 has a bit of its own, and takes that of the other two
