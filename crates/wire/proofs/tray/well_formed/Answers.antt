@@ -8,7 +8,7 @@ use Rattle.wire.specs.Tray.{well_formed, entry_count, entry_at, chained}
 use Rattle.wire.specs.Words.{half_at}
 use Rattle.wire.proofs.Tests.{both_made, one_made}
 use Rattle.wire.proofs.tray.well_formed.Goals as goal
-use Rattle.wire.proofs.tray.well_formed.Goals.{then-tray-count, else-tray-count}
+use Rattle.wire.proofs.tray.well_formed.Goals.{Joined-tray-count, then-tray-count, else-tray-count}
 
 -- the tests that need no header, and those that need one, for a tray with n entries
 abbrev sized : List ℕ → ℕ → Bool
@@ -38,29 +38,23 @@ roomy_gives s n h =
 pub half-requires : goal.half-requires
 half-requires c = (sized_gives _ _ c.if-tray-count.true).0
 
+-- the tests before that of the frames
+roomy_is : (c : Joined-tray-count)
+    → c.if-tray-count.value ≡ (sized c.args.tray.now c.entry_count-count.result && roomy c.args.tray.now c.entry_count-count.result)
+roomy_is c = elim c.if-tray-count.branch [
+  | then-tray-count w ↦ both_made _ _ _ w.if-tray-count.true (w.value-is ∙ rw w.half.ensures.0)
+  | else-tray-count w ↦ one_made _ _ _ w.if-tray-count.false w.value-is
+]
+
 pub frames_follow-requires : goal.frames_follow-requires
-frames_follow-requires c =
-    let roomy_is : c.if-tray-count.value ≡ (sized c.args.tray.now c.entry_count-count.result && roomy c.args.tray.now c.entry_count-count.result) =
-    elim c.if-tray-count.branch [
-      | then-tray-count w ↦ both_made _ _ _ w.if-tray-count.true (w.value-is ∙ rw w.half.ensures.0)
-      | else-tray-count w ↦ one_made _ _ _ w.if-tray-count.false w.value-is
-    ] in
-    roomy_gives _ _ (sym roomy_is ∙ c.if-half-count.true)
+frames_follow-requires c = roomy_gives _ _ (sym (roomy_is (goal.at.frames_follow-requires c).Joined-tray-count) ∙ c.if-half-count.true)
 
 pub returns-then-half-count : goal.returns-then-half-count
 returns-then-half-count c =
-    let roomy_is : c.if-tray-count.value ≡ (sized c.args.tray.now c.entry_count-count.result && roomy c.args.tray.now c.entry_count-count.result) =
-    elim c.if-tray-count.branch [
-      | then-tray-count w ↦ both_made _ _ _ w.if-tray-count.true (w.value-is ∙ rw w.half.ensures.0)
-      | else-tray-count w ↦ one_made _ _ _ w.if-tray-count.false w.value-is
-    ] in
-    both_made _ _ _ (sym roomy_is ∙ c.if-half-count.true) c.frames_follow.ensures ∙ as_defined _ _ c.entry_count-count.ensures
+    let tests = roomy_is (goal.at.returns-then-half-count c).Joined-tray-count in
+    both_made _ _ _ (sym tests ∙ c.if-half-count.true) c.frames_follow.ensures ∙ as_defined _ _ c.entry_count-count.ensures
 
 pub returns-else-half-count : goal.returns-else-half-count
 returns-else-half-count c =
-    let roomy_is : c.if-tray-count.value ≡ (sized c.args.tray.now c.entry_count-count.result && roomy c.args.tray.now c.entry_count-count.result) =
-    elim c.if-tray-count.branch [
-      | then-tray-count w ↦ both_made _ _ _ w.if-tray-count.true (w.value-is ∙ rw w.half.ensures.0)
-      | else-tray-count w ↦ one_made _ _ _ w.if-tray-count.false w.value-is
-    ] in
-    one_made _ _ _ (sym roomy_is ∙ c.if-half-count.false) roomy_is ∙ as_defined _ _ c.entry_count-count.ensures
+    let tests = roomy_is (goal.at.returns-else-half-count c).Joined-tray-count in
+    one_made _ _ _ (sym tests ∙ c.if-half-count.false) tests ∙ as_defined _ _ c.entry_count-count.ensures
