@@ -1,6 +1,5 @@
 -- What several proofs of the crate share.
 pub mod Directory
-pub mod Found
 pub mod Heard
 pub mod NextEntry
 pub mod Promises

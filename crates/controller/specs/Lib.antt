@@ -2,7 +2,6 @@
 pub mod Lists
 pub mod Thirds
 pub mod State
-pub mod Fields
 pub mod Received
 pub mod First
 pub mod Rotation
@@ -11,6 +10,7 @@ pub mod Rules
 pub mod Refusals
 pub mod Calls
 pub mod Bytes
+pub mod Texts
 pub mod Trials
 pub mod Examples
 pub mod Laws

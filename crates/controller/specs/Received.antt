@@ -9,7 +9,7 @@
 --     count P r            how many of those heard have a received frame with P
 --     lists r              the received lists, all that the coordinator rotation reads: no bit is among them
 use Rattle.std.specs.Prelude.{ℕ, Bool, true, false, cond, ◌&&◌, List, [], map, ltb, eqb}
-use Rattle.std.proofs.Math.Option.{Option, some, none}
+use Rattle.std.specs.Prelude.{Option, Some, None}
 use Rattle.wire.specs.Frame.{Content, content, kind_of, kind_said, bit_said, said_by, max_count}
 use Rattle.wire.specs.Found.{Under, nothing, one, several, under}
 use Rattle.wire.specs.Tray.{Entry}
@@ -37,9 +37,9 @@ senders es = map (λ (e : Entry). e.sender) es
 
 -- what one frame reads as; none and several say nothing
 abbrev pub read_in : ℕ → Under → Option Content
-read_in t nothing = none
+read_in t nothing = None
 read_in t (one b) = content b t
-read_in t several = none
+read_in t several = None
 
 abbrev pub is_nothing : Under → Bool
 is_nothing nothing = true
@@ -61,22 +61,22 @@ unfoldable pub receive : View → List Entry → Received
 receive v es =
     record {
       heard = insert_all (senders es) v.rotor.heard;
-      from = λ x. cond (eqb x v.own) (some (frame_of v)) (cond (silent v es x) (some (stand_in v)) (read_in v.round (under x es)));
+      from = λ x. cond (eqb x v.own) (Some (frame_of v)) (cond (silent v es x) (Some (stand_in v)) (read_in v.round (under x es)));
     }
 
 -- ---- what a received frame says
 
 abbrev pub says : ℕ → ℕ → Option Content → Bool
-says k b none = false
-says k b (some c) = eqb (kind_said c.said) k && eqb (bit_said c.said) b
+says k b None = false
+says k b (Some c) = eqb (kind_said c.said) k && eqb (bit_said c.said) b
 
 abbrev pub opinion_in : Option Content → ℕ
-opinion_in none = 2
-opinion_in (some c) = cond (eqb (kind_said c.said) 5) (bit_said c.said) 2
+opinion_in None = 2
+opinion_in (Some c) = cond (eqb (kind_said c.said) 5) (bit_said c.said) 2
 
 abbrev pub list_in : Option Content → List ℕ
-list_in none = []
-list_in (some c) = c.numbers
+list_in None = []
+list_in (Some c) = c.numbers
 
 abbrev pub count : (Option Content → Bool) → Received → ℕ
 count P r = count_if (λ (x : ℕ). P (r.from x)) r.heard

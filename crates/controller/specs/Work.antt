@@ -4,6 +4,7 @@ pub mod Calls
 pub mod First
 pub mod Heads
 pub mod Lists
+pub mod OpenList
 pub mod Opened
 pub mod Own
 pub mod Received

@@ -3,11 +3,14 @@
 
 mod bit;
 pub mod calls;
+mod counts;
 mod first;
 mod heads;
 mod lists;
+mod open_list;
 mod opened;
 mod own;
+mod packed;
 mod received;
 mod rotation;
 pub mod sound;

@@ -5,161 +5,148 @@ ghost use Rattle.wire.specs.Frame.{content};
 ghost use Rattle.wire.specs.Limits.{max_numbers};
 ghost use Rattle.wire.specs.Words.{words_at};
 ghost use Rattle.controller.specs.Received.{read_in, list_in};
-ghost use Rattle.controller.specs.Work.Received.{noted};
-ghost use Rattle.controller.specs.Work.Opened.{end_mark, list_from, Lies, SpanOf, NumbersIn, start_limit, Placeable, PlacesIn, Openable, OpensAll};
+ghost use Rattle.controller.specs.Work.Received.{noted, Ready};
+ghost use Rattle.controller.specs.Work.OpenList.{end_mark, NumbersIn, start_limit};
+ghost use Rattle.controller.specs.Work.Opened.{nth_open, received_list, SpanOf, Recalls, Finds, Placeable, Adds, OpensOwn, OpensAll};
+ghost use Rattle.controller.specs.Work.Tally.{OneList};
 
-use crate::received::sent_count;
-use crate::state::Fields;
+use crate::open_list::{END, MAX_LISTS, NO_LIST, OpenList, OpenLists};
+use crate::received::{NotedTray, sent_count};
+use crate::state::State;
 use wire::found::{Found, NO_FRAME, found_by, same_frames};
-use wire::limits::{FRAME_HEADER, MAX_NUMBERS, NUMBER_WIDTH};
-use wire::read::{number_count, read_number, read_refusal};
+use wire::limits::{FRAME_HEADER, NUMBER_WIDTH};
+use wire::read::{check_frame, number_count, read_number};
 use wire::tray::part_of;
-
-// Above every number: what stands behind a list's last one.
-pub(crate) const END: usize = 4294967296;
-// The own list, and one for each number heard.
-pub(crate) const MAX_LISTS: usize = 65;
-
-// Where a list lies in the tray, and how many numbers it has.
-#[derive(Clone, Copy)]
-pub(crate) struct Span {
-    pub start: usize,
-    pub count: usize,
-}
 
 // How many numbers bytes list in a round; 0 where they are void.
 fn list_count(bytes: &[u8], round: u32) -> usize
     ensures { result ≡ length (list_in (content bytes.now round)) }
 {
-    if read_refusal(bytes, round) == 0 {
+    if check_frame(bytes, round).is_ok() {
         number_count(bytes)
     } else {
         0
     }
 }
 
-// The list of the frame that a note is of; an empty one where the frame is void or there is not one.
-fn list_of(tray: &[u8], note: u32, round: u32) -> Span
-    ensures { SpanOf tray.now (list_in (read_in round (noted tray.now note)))
-        result.start result.count }
+// The list of the frame that a note is of, which one sent; an empty one where the frame is void or there is not one.
+fn list_of(tray: &[u8], note: u32, round: u32) -> OpenList
+    ensures { SpanOf tray.now (list_in (read_in round (noted tray.now note))) result.start result.count × (result.sent ≡ 1) }
 {
-    let found = found_by(note);
-    if let Found::At(offset, len) = found {
-        Span {
+    if let Found::At(offset, len) = found_by(note) {
+        OpenList {
             start: offset + FRAME_HEADER,
             count: list_count(part_of(tray, offset, len), round),
+            sent: 1,
         }
     } else {
-        Span { start: 0, count: 0 }
+        OpenList { sent: 1, ..NO_LIST }
     }
 }
 
 // Whether the list that lies at a place of the tray has the numbers of the own list.
-fn same_list(tray: &[u8], start: usize, own: &[u32], count: usize) -> bool
-    requires { (start < start_limit) × (count ≤ max_numbers) × (count ≤ length own.now) × NumbersIn tray.now start count }
-    ensures { result ≡ true → words_at tray.now start count ≡ take count own.now }
+fn same_list(tray: &[u8], start: usize, own: &[u32]) -> bool
+    requires { (start < start_limit) × (length own.now ≤ max_numbers) × NumbersIn tray.now start (length own.now) }
+    ensures { result ≡ true → words_at tray.now start (length own.now) ≡ own.now }
 {
-    let mut i = 0;
-    while i < count {
-        if read_number(tray, start + NUMBER_WIDTH * i) != own[i] {
+    for (i, &number) in own.iter().enumerate() {
+        if read_number(tray, start + NUMBER_WIDTH * i) != number {
             return false;
         }
-        i += 1;
     }
     true
 }
 
-// The number at place `i` of list `j`; `END` behind its last one.
-pub(crate) fn number_in(
-    own: &[u32],
-    tray: &[u8],
-    j: usize,
-    start: usize,
-    count: usize,
-    i: usize,
-) -> usize
-    requires { Lies own.now tray.now j start count }
-    ensures { (result ≡ get_or (list_from own.now tray.now j start count) i end_mark) × (result ≤ end_mark) }
+// The number at place `i` of open list `j`; `END` behind its last one.
+pub(crate) fn number_in(opened: &OpenLists, j: usize, i: usize) -> usize
+    requires { j < opened.now.len }
+    ensures { (result ≡ get_or (nth_open opened.now j) i end_mark) × (result ≤ end_mark) }
 {
-    if i < count {
-        if j == 0 {
-            own[i] as usize
-        } else {
-            read_number(tray, start + NUMBER_WIDTH * i) as usize
-        }
-    } else {
+    let list = opened.lists[j];
+    if list.count <= i {
         END
+    } else if j == 0 {
+        opened.own[i] as usize
+    } else {
+        read_number(opened.tray, list.start + NUMBER_WIDTH * i) as usize
     }
 }
 
-// The place of the list received with a note: that of an open one that is sure to be equal, else `len`, where it is opened. `slot` is the place of the list
+// The place of an open list that is sure to be the one received with a note; where there is none, as an error, that list. `slot` is the place of the list
 // that was received with the note `last`.
-fn place_list(
+fn find_list(
+    opened: &OpenLists,
     round: u32,
-    own: &[u32],
-    tray: &[u8],
     note: u32,
     last: u32,
     slot: usize,
-    starts: &mut [usize],
-    counts: &mut [usize],
-    len: usize,
-) -> usize
-    requires { Placeable round own.now tray.now starts.old counts.old len last slot }
-    ensures { PlacesIn round own.now tray.now note len starts.old counts.old starts.new counts.new result }
+) -> Result<usize, OpenList>
+    requires { Recalls round opened.now last slot }
+    ensures { Finds (received_list round opened.now note) opened.now result }
 {
     if note == NO_FRAME {
-        return 0;
+        return Ok(0);
     }
-    if same_frames(tray, last, note) {
-        return slot;
+    if same_frames(opened.tray, last, note) {
+        return Ok(slot);
     }
-    let list = list_of(tray, note, round);
-    let start = list.start;
-    let count = list.count;
-    if count == counts[0] {
-        if same_list(tray, start, own, count) {
-            return 0;
-        }
+    let list = list_of(opened.tray, note, round);
+    let count = opened.lists[0].count;
+    if list.count == count && same_list(opened.tray, list.start, &opened.own[..count]) {
+        return Ok(0);
     }
-    starts[len] = start;
-    counts[len] = count;
-    len
+    Err(list)
 }
 
-// Opens the list received with each note, and returns how many are open. A list that is equal to the own one is counted with that one, and so is that of a
-// controller with no entry. Of the others, those whose frames have the bytes of the frame before theirs are counted with it; those with no entry in between
-// do not part them.
-pub(crate) fn open_lists(
-    fields: Fields,
-    own: &[u32],
-    tray: &[u8],
-    notes: &[u32; MAX_NUMBERS],
-    starts: &mut [usize],
-    counts: &mut [usize],
-    sent: &mut [usize],
-) -> usize
-    requires { Openable fields own.now tray.now notes.now starts.old counts.old sent.old }
-    ensures { OpensAll fields own.now tray.now notes.now starts.new counts.new sent.new result }
+// Counts the list received with a note, and returns its place: that of an open one that is sure to be equal, else the one behind them, where it is opened.
+fn place_list(opened: &mut OpenLists, round: u32, note: u32, last: u32, slot: usize) -> usize
+    requires { Placeable round opened.old last slot }
+    ensures { Adds (received_list round opened.old note) opened.old result opened.new }
 {
-    counts[0] = sent_count(fields);
-    let round = fields.round;
-    let mut len = 1;
+    match find_list(opened, round, note, last, slot) {
+        Ok(place) => {
+            opened.lists[place].sent += 1;
+            place
+        }
+        Err(list) => {
+            let place = opened.len;
+            opened.lists[place] = list;
+            opened.len += 1;
+            place
+        }
+    }
+}
+
+// The own list, of so many numbers, with nobody counted for it.
+fn own_alone<'a>(own: &'a [u32], tray: &'a [u8], count: usize) -> OpenLists<'a>
+    requires { (count ≤ max_numbers) × (count ≤ length own.now) × OneList (take count own.now) }
+    ensures { OpensOwn own.now tray.now count result }
+{
+    let mut lists = [NO_LIST; MAX_LISTS];
+    lists[0].count = count;
+    OpenLists {
+        own,
+        tray,
+        lists,
+        len: 1,
+    }
+}
+
+// Opens the list received with each note. A list that is equal to the own one is counted with that one, and so is that of a controller with no entry. Of the
+// others, those whose frames have the bytes of the frame before theirs are counted with it; those with no entry in between do not part them.
+pub(crate) fn open_lists<'a>(state: &'a State, noted: &NotedTray<'a>) -> OpenLists<'a>
+    requires { Ready state.now noted.now.tray.now noted.now.notes }
+    ensures { OpensAll state.now noted.now.tray.now noted.now.notes result }
+{
+    let mut opened = own_alone(&state.echoes.at, noted.tray, sent_count(state));
     let mut last = NO_FRAME;
     let mut slot = 0;
-    let mut j = 0;
-    while j < fields.heard {
-        let note = notes[j];
-        let place = place_list(round, own, tray, note, last, slot, starts, counts, len);
-        sent[place] += 1;
-        if place == len {
-            len += 1;
-        }
+    for &note in &noted.notes[..state.heard.len] {
+        let place = place_list(&mut opened, state.round, note, last, slot);
         if note != NO_FRAME {
             last = note;
             slot = place;
         }
-        j += 1;
     }
-    len
+    opened
 }

@@ -1,17 +1,17 @@
 // The own list, and how many of those heard sent the same one. Mostly all do.
 ghost use Rattle.std.specs.Prelude.{true, ◌≡◌, ℕ, ◌≤◌, length};
 ghost use Rattle.wire.specs.Frame.{content};
-ghost use Rattle.wire.specs.Limits.{max_numbers, max_frame};
+ghost use Rattle.wire.specs.Limits.{max_frame, max_numbers};
 ghost use Rattle.controller.specs.Received.{list_in};
-ghost use Rattle.controller.specs.Work.Received.{sent_count};
+ghost use Rattle.controller.specs.Work.Received.{Ready, sent_count};
 ghost use Rattle.controller.specs.Work.Opened.{list_under};
 ghost use Rattle.controller.specs.Work.Own.{SharesList, WritesOwn, AgreesOwn};
 
-use crate::received::sent_count;
-use crate::state::Fields;
+use crate::received::{NotedTray, sent_count};
+use crate::state::State;
 use wire::found::{NO_FRAME, same_bytes};
 use wire::frame::kind_of;
-use wire::limits::{FRAME_HEADER, MAX_FRAME, MAX_NUMBERS, NO_BIT, TURN};
+use wire::limits::{FRAME_HEADER, MAX_FRAME, NO_BIT, TURN};
 use wire::write::lay_frame;
 
 // Whether a note is sure to be of the list that a frame has: of no frame, since who has no entry counts as having sent it, or of one with the same bytes.
@@ -36,47 +36,39 @@ fn sent_list(frame: &[u8], tray: &[u8], note: u32) -> bool
     same_bytes(&tray[offset..offset + len], frame)
 }
 
-// How many of the first `h` notes are sure to be of the list that a frame has.
-fn count_list(h: usize, frame: &[u8], tray: &[u8], notes: &[u32; MAX_NUMBERS]) -> usize
-    requires { h ≤ max_numbers }
-    ensures { SharesList h frame.now tray.now notes.now result }
+// How many of some notes are sure to be of the list that a frame has.
+fn count_list(frame: &[u8], tray: &[u8], notes: &[u32]) -> usize
+    ensures { SharesList (length notes.now) frame.now tray.now notes.now result }
 {
     let mut count = 0;
-    let mut j = 0;
-    while j < h {
-        if sent_list(frame, tray, notes[j]) {
+    for &note in notes {
+        if sent_list(frame, tray, note) {
             count += 1;
         }
-        j += 1;
     }
     count
 }
 
 // Writes the own frame, without an opinion, as one that is silent counts as having sent it; returns its length.
-fn write_own(fields: Fields, own: &[u32], out: &mut [u8]) -> usize
-    requires { (sent_count fields ≤ length own.now) × (max_frame ≤ length out.old) }
-    ensures { WritesOwn fields own.now out.new result }
+fn write_own(state: &State, out: &mut [u8]) -> usize
+    requires { (max_frame ≤ length out.old) × (sent_count state.now ≤ max_numbers) }
+    ensures { WritesOwn state.now out.new result }
 {
-    let bit = if kind_of(fields.round) == TURN {
+    let bit = if kind_of(state.round) == TURN {
         NO_BIT
     } else {
-        fields.said
+        state.said
     };
-    let len = sent_count(fields);
-    lay_frame(fields.round, bit, &own[0..len], out)
+    let own = &state.echoes.at[..sent_count(state)];
+    lay_frame(state.round, bit, own, out)
 }
 
 // How many of those heard are sure to have sent the own list.
-pub(crate) fn count_own(
-    fields: Fields,
-    own: &[u32],
-    tray: &[u8],
-    notes: &[u32; MAX_NUMBERS],
-) -> usize
-    requires { (fields.heard ≤ max_numbers) × (sent_count fields ≤ length own.now) }
-    ensures { AgreesOwn fields own.now tray.now notes.now result }
+pub(crate) fn count_own(state: &State, noted: &NotedTray) -> usize
+    requires { Ready state.now noted.now.tray.now noted.now.notes }
+    ensures { AgreesOwn state.now noted.now.tray.now noted.now.notes result }
 {
-    let mut room = [0u8; MAX_FRAME];
-    let len = write_own(fields, own, &mut room);
-    count_list(fields.heard, &room[0..len], tray, notes)
+    let mut room = [0; MAX_FRAME];
+    let len = write_own(state, &mut room);
+    count_list(&room[..len], noted.tray, &noted.notes[..state.heard.len])
 }

@@ -1,210 +1,170 @@
 // What is received in a round: who is heard, and what the frame under each heard number says.
-ghost use Rattle.std.specs.Prelude.{true, cond, ◌≡◌, ℕ, ◌≤◌, eqb, replicate};
+ghost use Rattle.std.specs.Prelude.{true, ◌≡◌, ℕ, replicate};
 ghost use Rattle.wire.specs.Frame.{content, kind_of, bit_in};
 ghost use Rattle.wire.specs.Heads.{Short, head_of};
 ghost use Rattle.wire.specs.Limits.{max_numbers};
 ghost use Rattle.wire.specs.Numbers.{listed};
 ghost use Rattle.wire.specs.Notes.{no_frame};
-ghost use Rattle.wire.specs.Tray.{well_formed, entries};
+ghost use Rattle.wire.specs.Tray.{entries};
 ghost use Rattle.controller.specs.State.{sound_list};
 ghost use Rattle.controller.specs.Received.{senders, read_in};
-ghost use Rattle.controller.specs.Work.Received.{noted, others_only, HearsFrom, Hears};
-ghost use Rattle.controller.specs.Work.Received.{received_by, bit_under, Votes, CountsBits, AnyReady, sent_count, CountsFew};
-ghost use Rattle.controller.specs.Work.Lists.{in_places};
+ghost use Rattle.controller.specs.Work.Received.{noted, others_only, HearsFrom, HearsIn, Hears};
+ghost use Rattle.controller.specs.Work.Received.{received_by, bit_had, bit_under, Votes, CountsBits, Ready, sent_count};
 
-use crate::lists::{ABSENT, find_near, insert_at, open_at, stands_before};
-use crate::state::Fields;
+use crate::counts::Counts;
+use crate::lists::{find_near, insert_at, open_at, stands_before};
+use crate::packed::PackedTray;
+use crate::state::State;
 use wire::found::{Found, NO_FRAME, found_by, note_with};
-use wire::frame::{Read, bit_said, kind_of, max_count};
+use wire::frame::{Numbers, bit_said, kind_of, max_count};
 use wire::limits::{ENTRY_WIDTH, FRAME_HEADER, MAX_NUMBERS};
 use wire::read::{head_of, read_frame, read_head};
 use wire::tray::{directory, entry_count, entry_place, entry_sender, part_of};
 
+// A tray, and beside each number heard a note on its frames in it. The numbers stand in the state, which is kept when the tray and its notes are gone.
+#[derive(Clone, Copy)]
+pub(crate) struct NotedTray<'a> {
+    pub tray: &'a [u8],
+    pub notes: [u32; MAX_NUMBERS],
+}
+
 // Whether no sender in the directory is 0 or the own number.
 pub(crate) fn senders_fit(tray: &[u8], own: u32) -> bool
-    requires { well_formed tray.now ≡ true }
     ensures { result ≡ others_only own (senders (entries tray.now)) }
 {
     let entries = directory(tray);
-    let count = entry_count(tray);
-    let mut i = 0;
-    while i < count {
-        let x = entry_sender(entries, i);
-        if x == 0 {
+    for i in 0..entry_count(tray) {
+        let sender = entry_sender(entries, i);
+        if sender == 0 || sender == own {
             return false;
         }
-        if x == own {
-            return false;
-        }
-        i += 1;
     }
     true
 }
 
-// One more than can be heard.
-const TOO_MANY: usize = 65;
-
 // Makes a note on the frames of each sender, from the directory's end to its front, so that of equal copies the first is kept; up to one that is new, or the
 // own number. Returns how many entries are left. Mostly none is: all are heard already, and the directory goes by rising senders.
-fn note_known(
-    tray: &[u8],
-    own: u32,
-    heard: &[u32; MAX_NUMBERS],
-    len: usize,
-    notes: &mut [u32; MAX_NUMBERS],
-) -> usize
-    requires { (well_formed tray.now ≡ true) × (sound_list (in_places len heard.now) ≡ true) × (notes.old ≡ replicate max_numbers no_frame) }
-    ensures { HearsFrom own tray.now (listed (in_places len heard.now)) (in_places len heard.now) notes.new result }
+fn note_known(tray: PackedTray, own: u32, heard: &Numbers, notes: &mut [u32; MAX_NUMBERS]) -> usize
+    requires { (sound_list heard.now ≡ true) × (notes.old ≡ replicate max_numbers no_frame) }
+    ensures { HearsFrom own tray.entry.bytes.now (listed heard.now) heard.now notes.new result }
 {
-    let entries = directory(tray);
-    let mut place = len;
-    let mut i = entries.len() / ENTRY_WIDTH;
-    while 0 < i {
-        let x = entry_sender(entries, i - 1);
-        if x == own {
-            return i;
+    let entries = directory(tray.bytes);
+    let mut place = heard.len;
+    for i in (0..entries.len() / ENTRY_WIDTH).rev() {
+        let sender = entry_sender(entries, i);
+        if sender == own {
+            return i + 1;
         }
-        if stands_before(heard, place, x) {
+        if stands_before(heard, place, sender) {
             place -= 1;
+        } else if let Ok(found) = find_near(heard, sender, 0) {
+            place = found;
         } else {
-            place = find_near(heard, len, x, 0);
-            if ABSENT <= place {
-                return i;
-            }
+            return i + 1;
         }
-        i -= 1;
-        notes[place] = note_with(tray, notes[place], entry_place(entries, i));
+        notes[place] = note_with(tray.bytes, notes[place], entry_place(entries, i));
     }
-    i
+    0
 }
 
-// Goes on with the `left` entries in front, and puts new senders into heard. Returns how many are heard: 65 where that would be more than 64, or a sender does
-// not fit.
+// Goes on with the `left` entries in front, and puts new senders into heard. Whether they fit: none is 0 or the own number, and no more than 64 are heard.
 fn hear_new(
-    tray: &[u8],
+    tray: PackedTray,
     own: u32,
-    heard: &mut [u32; MAX_NUMBERS],
-    len: usize,
+    heard: &mut Numbers,
     left: usize,
     notes: &mut [u32; MAX_NUMBERS],
-) -> usize
-    requires { (well_formed tray.now ≡ true) × HearsFrom own tray.now (listed (in_places len heard.old)) (in_places len heard.old) notes.old left }
-    ensures { Hears own tray.now (listed (in_places len heard.old)) result heard.new notes.new × (result ≤ len → heard.new ≡ heard.old) }
+) -> bool
+    requires { HearsFrom own tray.bytes.now (listed heard.old) heard.old notes.old left }
+    ensures { Hears own tray.entry.bytes.now (listed heard.old) result heard.new notes.new }
 {
-    let entries = directory(tray);
-    let mut n = len;
+    let entries = directory(tray.bytes);
     let mut next = 0;
-    let mut i = left;
-    while 0 < i {
-        i -= 1;
-        let x = entry_sender(entries, i);
-        if x == own {
-            return TOO_MANY;
+    for i in (0..left).rev() {
+        let sender = entry_sender(entries, i);
+        if sender == own {
+            return false;
         }
-        let found = find_near(heard, n, x, next);
-        let j = found % ABSENT;
-        if found < ABSENT {
-            notes[j] = note_with(tray, notes[j], entry_place(entries, i));
-        } else {
-            if x == 0 {
-                return TOO_MANY;
+        let place = entry_place(entries, i);
+        let at = match find_near(heard, sender, next) {
+            Ok(at) => {
+                notes[at] = note_with(tray.bytes, notes[at], place);
+                at
             }
-            if MAX_NUMBERS <= n {
-                return TOO_MANY;
+            Err(at) => {
+                if sender == 0 || MAX_NUMBERS <= heard.len {
+                    return false;
+                }
+                open_at(notes, heard.len, at, place);
+                insert_at(heard, at, sender);
+                at
             }
-            insert_at(heard, n, j, x);
-            open_at(notes, n, j, entry_place(entries, i));
-            n += 1;
-        }
-        next = (j + MAX_NUMBERS - 1) % MAX_NUMBERS;
+        };
+        next = (at + MAX_NUMBERS - 1) % MAX_NUMBERS;
     }
-    n
+    true
 }
 
-// Puts the directory's senders into heard, makes a note on the frames of each, and returns how many are heard: 65 where that would be more than 64, or a
-// sender does not fit. It goes from the directory's end to its front, so that of equal copies the first is kept.
-pub(crate) fn hear(
-    tray: &[u8],
-    own: u32,
-    heard: &mut [u32; MAX_NUMBERS],
-    len: usize,
-    notes: &mut [u32; MAX_NUMBERS],
-) -> usize
-    requires { (well_formed tray.now ≡ true) × (sound_list (in_places len heard.old) ≡ true) × (notes.old ≡ replicate max_numbers no_frame) }
-    ensures { Hears own tray.now (listed (in_places len heard.old)) result heard.new notes.new }
+// Puts the directory's senders into heard, and makes a note on the frames of each. `None` where one of them does not fit, or more than 64 would be heard;
+// heard may then have some of them. It goes from the directory's end to its front, so that of equal copies the first is kept.
+pub(crate) fn hear<'a>(tray: PackedTray<'a>, own: u32, heard: &mut Numbers) -> Option<NotedTray<'a>>
+    requires { sound_list heard.old ≡ true }
+    ensures { HearsIn own tray.entry.bytes.now (listed heard.old) result heard.new }
 {
-    let left = note_known(tray, own, heard, len, notes);
-    if left == 0 {
-        return len;
-    }
-    hear_new(tray, own, heard, len, left, notes)
-}
-
-// In the place of a bit, for bytes that are void and where there is not one frame. No frame says it.
-const NOTHING_SAID: u8 = 3;
-
-// The bit that bytes say in a round.
-pub(crate) fn frame_bit(bytes: &[u8], round: u32) -> u8
-    ensures { result ≡ bit_in (content bytes.now round) }
-{
-    let read = read_frame(bytes, round);
-    if let Read::Valid(frame) = read {
-        let said = frame.said;
-        bit_said(said)
+    let mut notes = [NO_FRAME; MAX_NUMBERS];
+    let left = note_known(tray, own, heard, &mut notes);
+    if left == 0 || hear_new(tray, own, heard, left, &mut notes) {
+        Some(NotedTray {
+            tray: tray.bytes,
+            notes,
+        })
     } else {
-        NOTHING_SAID
+        None
     }
 }
 
-// The bit of the frame that a note is of, read in a round.
-fn noted_bit(tray: &[u8], note: u32, round: u32) -> u8
-    ensures { result ≡ bit_in (read_in round (noted tray.now note)) }
+// The bit that bytes say in a round; none where they are void.
+pub(crate) fn frame_bit(bytes: &[u8], round: u32) -> Option<u8>
+    ensures { bit_had result ≡ bit_in (content bytes.now round) }
 {
-    let found = found_by(note);
-    let Found::At(offset, len) = found else {
-        return NOTHING_SAID;
+    let frame = read_frame(bytes, round).ok()?;
+    Some(bit_said(frame.said))
+}
+
+// The bit of the frame that a note is of, read in a round; none where it is void, or where there is not one frame.
+fn noted_bit(tray: &[u8], note: u32, round: u32) -> Option<u8>
+    ensures { bit_had result ≡ bit_in (read_in round (noted tray.now note)) }
+{
+    let Found::At(offset, len) = found_by(note) else {
+        return None;
     };
     frame_bit(part_of(tray, offset, len), round)
 }
 
-// The bit received with a note: `absent` where there is no entry, 3 where the frame is void or there are several.
-pub(crate) fn received_bit(round: u32, absent: u8, tray: &[u8], note: u32) -> u8
-    ensures { result ≡ bit_under round absent tray.now note }
+// The bit received with a note: `absent` where there is no entry, none where the frame is void or there are several.
+pub(crate) fn received_bit(round: u32, absent: u8, tray: &[u8], note: u32) -> Option<u8>
+    ensures { bit_had result ≡ bit_under round absent tray.now note }
 {
-    if note != NO_FRAME {
-        noted_bit(tray, note, round)
+    if note == NO_FRAME {
+        Some(absent)
     } else {
-        absent
+        noted_bit(tray, note, round)
     }
 }
 
 // How many of the echoes a state's frame lists: all in a roster and a turn, else none.
-pub(crate) fn sent_count(fields: Fields) -> usize
-    ensures { result ≡ sent_count fields }
+pub(crate) fn sent_count(state: &State) -> usize
+    ensures { result ≡ sent_count state.now }
 {
-    if 0 < max_count(kind_of(fields.round)) {
-        fields.echoes
+    if 0 < max_count(kind_of(state.round)) {
+        state.echoes.len
     } else {
         0
     }
 }
 
-// 1 where two bytes are the same, else 0.
-pub(crate) fn one_if(bit: u8, other: u8) -> usize
-    ensures { result ≡ cond (eqb bit other) 1 0 }
-{
-    if bit == other { 1 } else { 0 }
-}
-
-// How many of those heard sent each of the two bits.
-#[derive(Clone, Copy)]
-pub(crate) struct Counts {
-    pub zeros: usize,
-    pub ones: usize,
-}
-
 // The header received with a note in a round whose frames list nothing, as one number: `own` where there is no entry, 0 where there is not one frame of eight
-// bytes. Such a frame is the one that says 0, the one that says 1, or neither of them.
+// bytes, which no header is. Such a frame is the one that says 0, the one that says 1, or neither of them.
 fn short_head(own: u64, tray: &[u8], note: u32) -> u64
     ensures { (t d : ℕ) → Short t → own ≡ head_of t d → Votes t d tray.now note result }
 {
@@ -217,30 +177,20 @@ fn short_head(own: u64, tray: &[u8], note: u32) -> u64
     read_head(tray, note as usize / 65536)
 }
 
-// 1 where two headers are the same, else 0.
-fn one_if_head(head: u64, other: u64) -> usize
-    ensures { result ≡ cond (eqb head other) 1 0 }
-{
-    if head == other { 1 } else { 0 }
-}
-
 // Counts the values or the proposals of the round, bit by bit. Who has no entry, oneself or one that is silent, says what oneself says.
-pub(crate) fn count_bits(fields: Fields, tray: &[u8], notes: &[u32; MAX_NUMBERS]) -> Counts
-    requires { fields.heard ≤ max_numbers }
-    ensures { CountsFew fields.heard result
-        × AnyReady fields tray.now notes.now (λ s b. Short s.round → CountsBits (kind_of s.round) (received_by s b) result) }
+pub(crate) fn count_bits(state: &State, noted: &NotedTray) -> Counts
+    requires { Ready state.now noted.now.tray.now noted.now.notes × Short state.now.round }
+    ensures { CountsBits (kind_of state.now.round) (received_by state.now noted.now.tray.now) result }
 {
-    let own = head_of(fields.round, fields.said);
-    let zero = head_of(fields.round, 0);
-    let one = head_of(fields.round, 1);
+    let own = head_of(state.round, state.said);
+    let zero = head_of(state.round, 0);
+    let one = head_of(state.round, 1);
     let mut zeros = 0;
     let mut ones = 0;
-    let mut j = 0;
-    while j < fields.heard {
-        let head = short_head(own, tray, notes[j]);
-        zeros += one_if_head(head, zero);
-        ones += one_if_head(head, one);
-        j += 1;
+    for &note in &noted.notes[..state.heard.len] {
+        let head = short_head(own, noted.tray, note);
+        zeros += (head == zero) as usize;
+        ones += (head == one) as usize;
     }
     Counts { zeros, ones }
 }

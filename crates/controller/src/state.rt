@@ -1,7 +1,14 @@
 // A controller's state, as document 01, "A controller's state", lists it, with the record of document 02, A8, and what a call returns.
+ghost use Rattle.std.specs.Prelude.{Some};
+ghost use Rattle.controller.specs.Texts.{refusal_text};
+
+use std::error::Error;
+use std::fmt;
 use wire::frame::Numbers;
 use wire::limits::MAX_NUMBERS;
 
+// Any bytes make a state, and `tray`, `work` and `is_sound` promise an answer for each: so bits, the king and the decision are numbers here and no `Option`,
+// and the lists have no invariant. The record stands beside heard, and not in it, as document 02 has it and `View` does without it.
 #[derive(Clone, Copy)]
 pub struct State {
     // The own number.
@@ -25,7 +32,8 @@ pub struct State {
     pub since: [u8; MAX_NUMBERS],
 }
 
-// The refusal, 0 for none; the state after the call; the length of the frame written, 0 when refused and when the call decides.
+// The refusal, 0 for none; the state after the call; the length of the frame written, 0 when refused and when the call decides. It is no `Result`: document
+// 01, "Refusals", has a state and a length returned with each refusal, as `Promise` says.
 #[derive(Clone, Copy)]
 pub struct Answer {
     pub refusal: u8,
@@ -33,28 +41,45 @@ pub struct Answer {
     pub length: usize,
 }
 
-// A state but for the places of its lists and of its record, which are lent beside it: a call that works in place copies none of them. The order leaves no
-// gap between the fields, so that they are copied as whole words.
-#[derive(Clone, Copy)]
-pub struct Fields {
-    pub own: u32,
-    pub round: u32,
-    pub king: u32,
-    pub bit: u8,
-    pub said: u8,
-    pub strong: u8,
-    pub decision: u8,
-    // How many numbers each list has.
-    pub heard: usize,
-    pub candidates: usize,
-    pub echoes: usize,
+// Why a call is refused: document 01's "Refusals", each with its number.
+#[derive(Clone, Copy, Debug, PartialEq, Eq)]
+pub enum Refusal {
+    // The state is not sound.
+    Unsound = 1,
+    // The state's round is the last, or it has decided.
+    Finished = 2,
+    // The output buffer is shorter than the longest frame.
+    NoRoom = 3,
+    // The tray is not well packed.
+    BadlyPacked = 4,
+    // The tray is not of the state's round.
+    OtherRound = 5,
+    // A sender is 0 or the own number.
+    BadSender = 6,
+    // More than 64 numbers would be heard.
+    TooManyHeard = 7,
+    // Echoes or candidates would be more than 64.
+    TooManyListed = 8,
+    // A start with number 0, or with a bit over 1.
+    BadStart = 9,
 }
 
-// What a call in place returns: the fields after the call; the length of the frame written, 0 when refused and when the call decides; the
-// refusal, 0 for none.
-#[derive(Clone, Copy)]
-pub struct Worked {
-    pub fields: Fields,
-    pub length: usize,
-    pub refusal: u8,
+impl fmt::Display for Refusal {
+    ghost output = { λ e. Some (refusal_text e) };
+
+    fn fmt<W: fmt::Write>(&self, f: &mut fmt::Formatter<W>) -> fmt::Result {
+        f.write_str(match self {
+            Refusal::Unsound => "the state is not sound",
+            Refusal::Finished => "nothing more is worked",
+            Refusal::NoRoom => "no room for a frame",
+            Refusal::BadlyPacked => "the tray is not well packed",
+            Refusal::OtherRound => "the tray is of another round",
+            Refusal::BadSender => "a sender is 0 or the own number",
+            Refusal::TooManyHeard => "more than 64 would be heard",
+            Refusal::TooManyListed => "more than 64 would be listed",
+            Refusal::BadStart => "number 0, or no bit",
+        })
+    }
 }
+
+impl Error for Refusal {}

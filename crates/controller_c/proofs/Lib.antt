@@ -1,3 +1,2 @@
 -- What several proofs of the crate share.
-pub mod Promises
 pub mod Stores

@@ -3,6 +3,9 @@
 --     sets_whole      one as long as the list is all that is left of it
 --     sets_behind     one behind the first part of a list leaves that part
 --     sets_over       one as long as the part of a list that it starts with takes its place
+--     sets_part       what a call leaves that writes a part of a slice, here the k numbers from at on
+use borrow.Rule.Slice.PartMut.{put_mid}
+use Rattle.std.proofs.lemmas.Grind.{common_steps}
 use Rattle.std.proofs.lemmas.List.Edits.{sets, sets-eq}
 use Rattle.std.proofs.Math.Path.{◌≡◌, ◌∙◌}
 use Rattle.std.specs.Prelude.{refl, length, set, drop}
@@ -34,3 +37,6 @@ sets_over [] r [] e = refl
 sets_over [] r (v ∷ vs) e = absurd (omega arith)
 sets_over (x ∷ l) r [] e = absurd (omega arith)
 sets_over (x ∷ l) r (v ∷ vs) e = sets_cons v (l ++ r) 0 vs ∙ ap (λ (t : List ℕ). v ∷ t) (sets_over l r vs (omega arith))
+
+pub sets_part : (l vs ws : List ℕ) (at k : ℕ) → vs ≡ ws → length ws ≡ k → at + k ≤ length l → put_mid at k l vs ≡ sets l at ws
+sets_part l vs ws at k same size h = grind (arith, common_steps, sets-eq ws l at)

@@ -6,15 +6,13 @@
 --                                          stands in front of what stood in the output, and the length is the frame's
 --     StartImagePromise, TrayImagePromise  the promises of controller_start and of controller_tray
 --     field_of b x                         the number x of the image b; 0 where a tray would be refused under 1
---     HandsOver a n, HandedOver a ..       what is known before the answer a of a call is handed over to an image of n bytes, and what holds after
-use Rattle.std.specs.Prelude.{ℕ, true, cond, List, ◌++◌, ◌≡◌, eqb, length, drop}
+use Rattle.std.specs.Prelude.{ℕ, cond, List, ◌++◌, ◌≡◌, eqb, length, drop}
 use Rattle.wire.specs.Tray.{entries}
-use Rattle.controller.specs.State.{View, view, stored_state, start_view, start_rounds, sound}
+use Rattle.controller.specs.State.{View, view, stored_state, start_view, start_rounds}
 use Rattle.controller.specs.First.{rounds_after}
 use Rattle.controller.specs.Rules.{next}
 use Rattle.controller.specs.Refusals.{start_refusal, tray_refusal}
 use Rattle.controller.specs.Calls.{sent_bytes}
-use Rattle.controller.specs.declared.state.Answer.{Answer}
 use Rattle.controller_c.specs.Image.{image_bytes, laid_out, taken_apart, sound_image}
 
 -- "start 1 (image length), 9, 3"
@@ -62,14 +60,3 @@ TrayImagePromise image_before tray out_before r image_after out_after length_aft
 -- controller_round(image), ..
 abbrev pub field_of : List ℕ → ℕ → ℕ
 field_of b x = cond (sound_image b) x 0
-
--- ---- between the controller's calls and the host's
-
-pub record HandsOver (a : Answer) (n : ℕ) : Type 0 where
-  pub whole : n ≡ image_bytes
-  pub made : a.refusal ≡ 0 → sound a.state ≡ true
-
-pub record HandedOver (a : Answer) (image_before : List ℕ) (r : ℕ) (image_after : List ℕ) (length_after : ℕ) : Type 0 where
-  pub number : r ≡ a.refusal
-  pub image : image_after ≡ cond (eqb a.refusal 0) (laid_out a.state) image_before
-  pub written : length_after ≡ a.length

@@ -1,6 +1,6 @@
 -- The image of a state, 1,024 bytes that a host keeps: the page docs/IMAGE.md, and document 01, "A controller's state", with document 02's A8.
 --     image_bytes, own_at, ..   the image's length and the offsets of its fields
---     Sized n                   the list n has a count that fits, and its 64 places; SizedRotation f c e, so have candidates and echoes in parts
+--     Sized n                   the list n has a count that fits, and its 64 places; SizedRotation s, so have the candidates and the echoes of s
 --     list_bytes n              a list's 260 bytes: its count, then its 64 places
 --     zeros_from at             as many zeros as an image has bytes from at on
 --     laid_out s                the bytes of the state s
@@ -22,7 +22,6 @@ use Rattle.wire.specs.Frame.{kind_of}
 use Rattle.wire.specs.Limits.{max_numbers}
 use Rattle.wire.specs.declared.frame.Numbers.{Numbers}
 use Rattle.controller.specs.State.{sound}
-use Rattle.controller.specs.declared.state.Fields.{Fields}
 use Rattle.controller.specs.declared.state.State.{State}
 use Rattle.controller_c.specs.Words.{number_at, number_bytes, numbers_at, numbers_bytes}
 
@@ -83,9 +82,9 @@ pub record Sized (n : Numbers) : Type 0 where
   pub few : n.len ≤ max_numbers
   pub places : length n.at ≡ max_numbers
 
-pub record SizedRotation (f : Fields) (c e : List ℕ) : Type 0 where
-  pub candidates : Sized (record { len = f.candidates; at = c })
-  pub echoes : Sized (record { len = f.echoes; at = e })
+pub record SizedRotation (s : State) : Type 0 where
+  pub candidates : Sized s.candidates
+  pub echoes : Sized s.echoes
 
 -- the fields before the lists
 abbrev pub head_bytes : State → List ℕ

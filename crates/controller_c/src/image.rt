@@ -1,9 +1,8 @@
 // A state and its image: 1,024 bytes, laid out as docs/IMAGE.md has them. Of a list all 64 places are read and written, used or not: a loop of a fixed
 // count over words in the machine's order is a plain copy, which the compiler makes wide.
-ghost use Rattle.std.specs.Prelude.{true, [], ◌≡◌, ◌+◌, ◌*◌, ◌≤◌, length, drop};
+ghost use Rattle.std.specs.Prelude.{true, ◌≡◌, ◌+◌, ◌*◌, ◌≤◌, length, drop};
 ghost use Rattle.std.proofs.lemmas.List.Edits.{sets};
 ghost use Rattle.wire.specs.Limits.{max_numbers, number_width};
-ghost use Rattle.controller.specs.Fields.{state_of, whole_of};
 ghost use Rattle.controller.specs.State.{sound};
 ghost use Rattle.controller_c.specs.Image.{image_bytes, heard_at, since_at, reserved_at, list_width, Sized, SizedRotation, head_bytes, list_bytes, zeros_from};
 ghost use Rattle.controller_c.specs.Image.{laid_out, with_rotation, places_at, list_at, rounds_at, taken_apart, zeros, shaped, sound_image};
@@ -16,8 +15,8 @@ use crate::layout::{
 };
 use crate::word::{put_word, word};
 use controller::sound::is_sound;
-use controller::state::Fields;
-use wire::frame::kind_of;
+use controller::state::State;
+use wire::frame::{Numbers, kind_of};
 use wire::limits::{MAX_NUMBERS, NUMBER_WIDTH, VALUE};
 
 // Whether the reserved bytes are 0. They are joined by `|`, so that the loop has no way out to wait for.
@@ -26,10 +25,8 @@ fn reserved_zero(image: &[u8]) -> bool
     ensures { result ≡ zeros (drop reserved_at image.now) }
 {
     let mut all = 0;
-    let mut i = RESERVED_AT;
-    while i < IMAGE_BYTES {
-        all = all | image[i];
-        i += 1;
+    for &byte in &image[RESERVED_AT..] {
+        all |= byte;
     }
     all == 0
 }
@@ -41,52 +38,39 @@ fn take_places(image: &[u8], from: usize) -> [u32; MAX_NUMBERS]
     requires { from + number_width * max_numbers ≤ length image.now }
     ensures { result ≡ places_at image.now from }
 {
-    let mut at = [0u32; MAX_NUMBERS];
-    let mut i = 0;
-    while i < MAX_NUMBERS {
+    let mut at = [0; MAX_NUMBERS];
+    for i in 0..MAX_NUMBERS {
         at[i] = word(image, from + NUMBER_WIDTH * i);
-        i += 1;
     }
     at
 }
 
-// Reads a list's places, and returns its length.
-fn take_list(image: &[u8], from: usize, at: &mut [u32; MAX_NUMBERS]) -> usize
+fn take_list(image: &[u8], from: usize) -> Numbers
     requires { from + list_width ≤ length image.now }
-    ensures { record { len = result; at = at.new } ≡ list_at image.now from }
+    ensures { result ≡ list_at image.now from }
 {
-    *at = take_places(image, from + COUNT_BYTES);
-    word(image, from) as usize
+    Numbers {
+        len: word(image, from) as usize,
+        at: take_places(image, from + COUNT_BYTES),
+    }
 }
 
 // The record, a byte for each place.
-pub(crate) fn take_rounds(image: &[u8]) -> [u8; MAX_NUMBERS]
+fn take_rounds(image: &[u8]) -> [u8; MAX_NUMBERS]
     requires { length image.now ≡ image_bytes }
     ensures { result ≡ rounds_at image.now }
 {
-    let mut rounds = [0u8; MAX_NUMBERS];
-    let mut i = 0;
-    while i < MAX_NUMBERS {
-        rounds[i] = image[SINCE_AT + i];
-        i += 1;
-    }
+    let mut rounds = [0; MAX_NUMBERS];
+    rounds.copy_from_slice(&image[SINCE_AT..RESERVED_AT]);
     rounds
 }
 
-// Takes the state in an image apart, sound or not, into its fields and its lists' places.
-pub(crate) fn take_apart(
-    image: &[u8],
-    heard: &mut [u32; MAX_NUMBERS],
-    candidates: &mut [u32; MAX_NUMBERS],
-    echoes: &mut [u32; MAX_NUMBERS],
-) -> Fields
+// The state in an image, sound or not.
+pub(crate) fn take_apart(image: &[u8]) -> State
     requires { length image.now ≡ image_bytes }
-    ensures { whole_of result heard.new candidates.new echoes.new (rounds_at image.now) ≡ taken_apart image.now }
+    ensures { result ≡ taken_apart image.now }
 {
-    let heard_len = take_list(image, HEARD_AT, heard);
-    let candidates_len = take_list(image, CANDIDATES_AT, candidates);
-    let echoes_len = take_list(image, ECHOES_AT, echoes);
-    Fields {
+    State {
         own: word(image, OWN_AT),
         round: word(image, ROUND_AT),
         bit: image[OWN_BIT_AT],
@@ -94,9 +78,10 @@ pub(crate) fn take_apart(
         strong: image[STRONG_AT],
         king: word(image, KING_AT),
         decision: image[DECISION_AT],
-        heard: heard_len,
-        candidates: candidates_len,
-        echoes: echoes_len,
+        heard: take_list(image, HEARD_AT),
+        candidates: take_list(image, CANDIDATES_AT),
+        echoes: take_list(image, ECHOES_AT),
+        since: take_rounds(image),
     }
 }
 
@@ -110,158 +95,106 @@ pub(crate) fn is_shaped(image: &[u8]) -> bool
 pub(crate) fn is_sound_image(image: &[u8]) -> bool
     ensures { result ≡ sound_image image.now }
 {
-    if is_shaped(image) {
-        let mut heard = [0u32; MAX_NUMBERS];
-        let mut candidates = [0u32; MAX_NUMBERS];
-        let mut echoes = [0u32; MAX_NUMBERS];
-        let fields = take_apart(image, &mut heard, &mut candidates, &mut echoes);
-        let since = take_rounds(image);
-        is_sound(fields, &heard, &candidates, &echoes, &since)
-    } else {
-        false
-    }
+    is_shaped(image) && is_sound(&take_apart(image))
 }
 
 // ---- from a state to its image
 
-fn put_head(image: &mut [u8], fields: Fields)
+fn put_head(image: &mut [u8], state: &State)
     requires { heard_at ≤ length image.old }
-    ensures { image.new ≡ sets image.old 0 (head_bytes (state_of fields [] [] [])) }
+    ensures { image.new ≡ sets image.old 0 (head_bytes state.now) }
 {
-    put_word(image, OWN_AT, fields.own);
-    put_word(image, ROUND_AT, fields.round);
-    image[OWN_BIT_AT] = fields.bit;
-    image[SAID_AT] = fields.said;
-    image[STRONG_AT] = fields.strong;
-    put_word(image, KING_AT, fields.king);
-    image[DECISION_AT] = fields.decision;
+    put_word(image, OWN_AT, state.own);
+    put_word(image, ROUND_AT, state.round);
+    image[OWN_BIT_AT] = state.bit;
+    image[SAID_AT] = state.said;
+    image[STRONG_AT] = state.strong;
+    put_word(image, KING_AT, state.king);
+    image[DECISION_AT] = state.decision;
 }
 
 fn put_places(image: &mut [u8], from: usize, at: &[u32; MAX_NUMBERS])
     requires { (from + number_width * max_numbers ≤ length image.old) × (length at.now ≡ max_numbers) }
     ensures { image.new ≡ sets image.old from (numbers_bytes at.now) }
 {
-    let mut i = 0;
-    while i < MAX_NUMBERS {
+    for i in 0..MAX_NUMBERS {
         put_word(image, from + NUMBER_WIDTH * i, at[i]);
-        i += 1;
     }
 }
 
-fn put_list(image: &mut [u8], from: usize, at: &[u32; MAX_NUMBERS], len: usize)
-    requires { Sized (record { len = len; at = at.now }) × (from + list_width ≤ length image.old) }
-    ensures { image.new ≡ sets image.old from (list_bytes (record { len = len; at = at.now })) }
+fn put_list(image: &mut [u8], from: usize, list: &Numbers)
+    requires { Sized list.now × (from + list_width ≤ length image.old) }
+    ensures { image.new ≡ sets image.old from (list_bytes list.now) }
 {
-    put_word(image, from, len as u32);
-    put_places(image, from + COUNT_BYTES, at);
+    put_word(image, from, list.len as u32);
+    put_places(image, from + COUNT_BYTES, &list.at);
 }
 
 // Candidates and echoes.
-fn put_rotation(
-    image: &mut [u8],
-    fields: Fields,
-    candidates: &[u32; MAX_NUMBERS],
-    echoes: &[u32; MAX_NUMBERS],
-)
-    requires { SizedRotation fields candidates.now echoes.now × (since_at ≤ length image.old) }
-    ensures { image.new ≡ with_rotation (state_of fields [] candidates.now echoes.now) image.old }
+fn put_rotation(image: &mut [u8], state: &State)
+    requires { SizedRotation state.now × (since_at ≤ length image.old) }
+    ensures { image.new ≡ with_rotation state.now image.old }
 {
-    put_list(image, CANDIDATES_AT, candidates, fields.candidates);
-    put_list(image, ECHOES_AT, echoes, fields.echoes);
+    put_list(image, CANDIDATES_AT, &state.candidates);
+    put_list(image, ECHOES_AT, &state.echoes);
 }
 
 fn put_rounds(image: &mut [u8], since: &[u8; MAX_NUMBERS])
     requires { (length since.now ≡ max_numbers) × (reserved_at ≤ length image.old) }
     ensures { image.new ≡ sets image.old since_at since.now }
 {
-    let rounds = *since;
-    let mut i = 0;
-    while i < MAX_NUMBERS {
-        image[SINCE_AT + i] = rounds[i];
-        i += 1;
-    }
+    image[SINCE_AT..RESERVED_AT].copy_from_slice(since);
 }
 
 fn clear_reserved(image: &mut [u8])
     requires { length image.old ≡ image_bytes }
     ensures { image.new ≡ sets image.old reserved_at (zeros_from reserved_at) }
 {
-    let mut i = RESERVED_AT;
-    while i < IMAGE_BYTES {
-        image[i] = 0;
-        i += 1;
-    }
+    image[RESERVED_AT..].fill(0);
 }
 
-// Every byte of the image, from a sound state in parts.
-pub(crate) fn lay_out(
-    fields: Fields,
-    heard: &[u32; MAX_NUMBERS],
-    candidates: &[u32; MAX_NUMBERS],
-    echoes: &[u32; MAX_NUMBERS],
-    since: &[u8; MAX_NUMBERS],
-    image: &mut [u8],
-)
-    requires { (sound (whole_of fields heard.now candidates.now echoes.now since.now) ≡ true) × (length image.old ≡ image_bytes) }
-    ensures { image.new ≡ laid_out (whole_of fields heard.now candidates.now echoes.now since.now) }
+// Every byte of the image, from a sound state.
+pub(crate) fn lay_out(state: &State, image: &mut [u8])
+    requires { (sound state.now ≡ true) × (length image.old ≡ image_bytes) }
+    ensures { image.new ≡ laid_out state.now }
 {
-    put_head(image, fields);
-    put_list(image, HEARD_AT, heard, fields.heard);
-    put_rotation(image, fields, candidates, echoes);
-    put_rounds(image, since);
+    put_head(image, state);
+    put_list(image, HEARD_AT, &state.heard);
+    put_rotation(image, state);
+    put_rounds(image, &state.since);
     clear_reserved(image);
 }
 
 // ---- from a state to the image of the one before it
 
 // Those heard, with the record beside them. Nobody is ever dropped, so where they are still `known` in number they are the same, and so is the record.
-fn renew_heard(
-    image: &mut [u8],
-    known: usize,
-    fields: Fields,
-    heard: &[u32; MAX_NUMBERS],
-    since: &[u8; MAX_NUMBERS],
-)
-    requires { Sized (record { len = fields.heard; at = heard.now }) × (length since.now ≡ max_numbers) × (reserved_at ≤ length image.old) }
-    ensures { image.new ≡ renewed_heard known (whole_of fields heard.now [] [] since.now) image.old }
+fn renew_heard(image: &mut [u8], known: usize, state: &State)
+    requires { Sized state.now.heard × (length state.now.since ≡ max_numbers) × (reserved_at ≤ length image.old) }
+    ensures { image.new ≡ renewed_heard known state.now image.old }
 {
-    let len = fields.heard;
-    if len != known {
-        put_list(image, HEARD_AT, heard, len);
-        put_rounds(image, since);
+    if state.heard.len != known {
+        put_list(image, HEARD_AT, &state.heard);
+        put_rounds(image, &state.since);
     }
 }
 
 // Candidates and echoes, which a step changes only where it makes a roster or a value.
-fn renew_rotation(
-    image: &mut [u8],
-    fields: Fields,
-    candidates: &[u32; MAX_NUMBERS],
-    echoes: &[u32; MAX_NUMBERS],
-)
-    requires { SizedRotation fields candidates.now echoes.now × (since_at ≤ length image.old) }
-    ensures { image.new ≡ renewed_rotation (state_of fields [] candidates.now echoes.now) image.old }
+fn renew_rotation(image: &mut [u8], state: &State)
+    requires { SizedRotation state.now × (since_at ≤ length image.old) }
+    ensures { image.new ≡ renewed_rotation state.now image.old }
 {
-    if kind_of(fields.round) <= VALUE {
-        put_rotation(image, fields, candidates, echoes);
+    if kind_of(state.round) <= VALUE {
+        put_rotation(image, state);
     }
 }
 
-// Makes the image of the state before a step, in which `known` are heard, that of the state made, which is given in parts. A list that the step left as
-// it was is not stored again, nor are the reserved bytes, which are 0 already: most steps change the head alone.
-pub(crate) fn lay_over(
-    known: usize,
-    fields: Fields,
-    heard: &[u32; MAX_NUMBERS],
-    candidates: &[u32; MAX_NUMBERS],
-    echoes: &[u32; MAX_NUMBERS],
-    since: &[u8; MAX_NUMBERS],
-    image: &mut [u8],
-)
-    requires { LaysOver known (whole_of fields heard.now candidates.now echoes.now since.now) image.old }
-    ensures { image.new ≡ laid_out (whole_of fields heard.now candidates.now echoes.now since.now) }
+// Makes the image of the state before a step, in which `known` are heard, that of the state made. A list that the step left as it was is not stored again,
+// nor are the reserved bytes, which are 0 already: most steps change the head alone.
+pub(crate) fn lay_over(known: usize, state: &State, image: &mut [u8])
+    requires { LaysOver known state.now image.old }
+    ensures { image.new ≡ laid_out state.now }
 {
-    put_head(image, fields);
-    renew_heard(image, known, fields, heard, since);
-    renew_rotation(image, fields, candidates, echoes);
+    put_head(image, state);
+    renew_heard(image, known, state);
+    renew_rotation(image, state);
 }

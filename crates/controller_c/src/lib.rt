@@ -4,56 +4,32 @@
 ghost use Rattle.std.specs.Prelude.{cond, ◌≡◌, ◌≤◌, length, get_or};
 ghost use Rattle.wire.specs.Numbers.{listed};
 ghost use Rattle.wire.specs.Frame.{read_refusal};
-ghost use Rattle.controller.specs.Fields.{answer_of};
 ghost use Rattle.controller.specs.State.{first_rounds};
-ghost use Rattle.controller_c.specs.Calls.{StartImagePromise, TrayImagePromise, field_of, HandsOver, HandedOver};
+ghost use Rattle.controller_c.specs.Calls.{StartImagePromise, TrayImagePromise, field_of};
 ghost use Rattle.controller_c.specs.Image.{echoes_at, sound_image, taken_apart};
 ghost use Rattle.controller_c.specs.Words.{number_at};
 
-use crate::image::{is_shaped, is_sound_image, lay_out, lay_over, take_apart, take_rounds};
+use crate::image::{is_shaped, is_sound_image, lay_out, lay_over, take_apart};
 use crate::layout::{
     CANDIDATES_AT, COUNT_BYTES, DECISION_AT, ECHOES_AT, HEARD_AT, IMAGE_BYTES, KING_AT, ROUND_AT,
     SINCE_AT,
 };
 use crate::word::word;
 use controller::calls::{start, work};
-use controller::sound::fields_of;
-use controller::state::Worked;
+use controller::state::Refusal;
 use wire::limits::{MAX_NUMBERS, NUMBER_WIDTH};
-use wire::read::read_refusal;
+use wire::read::check_frame;
 
 mod image;
 mod layout;
 mod word;
 
-// Hands a start's answer over: the state goes into the image unless the start was refused.
-fn hand_over(
-    worked: Worked,
-    heard: &[u32; MAX_NUMBERS],
-    candidates: &[u32; MAX_NUMBERS],
-    echoes: &[u32; MAX_NUMBERS],
-    since: &[u8; MAX_NUMBERS],
-    image: &mut [u8],
-    written: &mut usize,
-) -> u8
-    requires { HandsOver (answer_of worked heard.now candidates.now echoes.now since.now) (length image.old) }
-    ensures { HandedOver (answer_of worked heard.now candidates.now echoes.now since.now) image.old result image.new written.new }
-{
-    *written = worked.length;
-    let refusal = worked.refusal;
-    if refusal == 0 {
-        let fields = worked.fields;
-        lay_out(fields, heard, candidates, echoes, since, image);
-    }
-    refusal
-}
-
-// Refuses what is no image, under 1.
+// Refuses what is no image.
 fn no_image(written: &mut usize) -> u8
     ensures { (result ≡ 1) × (written.new ≡ 0) }
 {
     *written = 0;
-    1
+    Refusal::Unsound as u8
 }
 
 // Begins a run with a number and a bit, and writes the init frame. Refusals 1, 9, 3. The image is not read.
@@ -67,30 +43,15 @@ pub extern "C" fn controller_start(
 ) -> u8
     ensures { StartImagePromise number bit image.old out.old result image.new out.new written.new }
 {
-    if image.len() == IMAGE_BYTES {
-        let answer = start(number, bit, out);
-        let state = answer.state;
-        let heard = state.heard;
-        let candidates = state.candidates;
-        let echoes = state.echoes;
-        let since = state.since;
-        let worked = Worked {
-            refusal: answer.refusal,
-            fields: fields_of(state),
-            length: answer.length,
-        };
-        hand_over(
-            worked,
-            &heard.at,
-            &candidates.at,
-            &echoes.at,
-            &since,
-            image,
-            written,
-        )
-    } else {
-        no_image(written)
+    if image.len() != IMAGE_BYTES {
+        return no_image(written);
     }
+    let answer = start(number, bit, out);
+    *written = answer.length;
+    if answer.refusal == 0 {
+        lay_out(&answer.state, image);
+    }
+    answer.refusal
 }
 
 // Works a tray of the round of the image's state and writes the next frame, or none if the controller decides. Refusals 1 to 8.
@@ -103,30 +64,21 @@ pub extern "C" fn controller_tray(
 ) -> u8
     ensures { TrayImagePromise image.old tray.now out.old result image.new out.new written.new }
 {
-    if is_shaped(image) {
-        let mut heard = [0u32; MAX_NUMBERS];
-        let mut candidates = [0u32; MAX_NUMBERS];
-        let mut echoes = [0u32; MAX_NUMBERS];
-        let mut since = take_rounds(image);
-        let fields = take_apart(image, &mut heard, &mut candidates, &mut echoes);
-        let worked = work(
-            fields,
-            &mut heard,
-            &mut candidates,
-            &mut echoes,
-            &mut since,
-            tray,
-            out,
-        );
-        *written = worked.length;
-        if worked.refusal == 0 {
-            let known = fields.heard;
-            let made = worked.fields;
-            lay_over(known, made, &heard, &candidates, &echoes, &since, image);
+    if !is_shaped(image) {
+        return no_image(written);
+    }
+    let mut state = take_apart(image);
+    let known = state.heard.len;
+    match work(&mut state, tray, out) {
+        Ok(length) => {
+            *written = length;
+            lay_over(known, &state, image);
+            0
         }
-        worked.refusal
-    } else {
-        no_image(written)
+        Err(refusal) => {
+            *written = 0;
+            refusal as u8
+        }
     }
 }
 
@@ -135,7 +87,10 @@ pub extern "C" fn controller_tray(
 pub extern "C" fn controller_frame(frame: &[u8], round: u32) -> u8
     ensures { result ≡ read_refusal frame.now round }
 {
-    read_refusal(frame, round)
+    match check_frame(frame, round) {
+        Ok(()) => 0,
+        Err(void) => void as u8,
+    }
 }
 
 // The decision of the image's state, 2 for none; 255 for an image that is not sound.
@@ -221,12 +176,8 @@ pub extern "C" fn controller_first_round(image: &[u8], i: u32) -> u32
     ensures { result ≡ field_of image.now (get_or (first_rounds (taken_apart image.now)) i 0) }
 {
     let place = i as usize;
-    if is_sound_image(image) {
-        if place < MAX_NUMBERS {
-            image[SINCE_AT + place] as u32
-        } else {
-            0
-        }
+    if place < MAX_NUMBERS && is_sound_image(image) {
+        image[SINCE_AT + place] as u32
     } else {
         0
     }

@@ -1,112 +1,61 @@
 // Document 01's session printer: a number and a bit from standard input, then trays, and a line of output for each call made with them.
 #![tactic(auto)]
 
-ghost use Rattle.std.specs.Prelude.{◌≤◌, ◌<◌, length, IfOk};
+ghost use Rattle.std.specs.Prelude.{◌≤◌, length, IfOk};
 
 use controller::calls::{start, tray};
 use controller::state::{Answer, State};
 use std::io;
 use std::io::ErrorKind;
-use wire::frame::{Read, bit_said, kind_said};
+use wire::frame::{bit_said, kind_said};
+use wire::limits::MAX_TRAY;
 use wire::read::{number_count, read_frame};
 use wire::tray::part_of;
 
-fn print(rt: &impl Print, text: &str) -> io::Result<()> {
-    rt.print(text)
-}
-
-// A column after the first.
-fn print_column(rt: &impl Print, n: u64) -> io::Result<()> {
-    print!(rt; " {n}")
-}
-
-fn wide(byte: u8) -> u64
-    ensures { result < 256 }
-{
-    byte as u64
-}
-
-fn half(high: u8, low: u8) -> u64
-    ensures { result < 65536 }
-{
-    wide(high) * 256 + wide(low)
-}
-
-fn word(first: u8, second: u8, third: u8, fourth: u8) -> u64
-    ensures { result < 4294967296 }
-{
-    half(first, second) * 65536 + half(third, fourth)
-}
-
-// Kind 0 and bit 2, for a call that sends nothing.
-fn print_nothing(rt: &impl Print, round: u32) -> io::Result<()> {
-    print!(rt; "{round} 0 2 0")
-}
-
 // What was sent is read from the bytes that the call wrote. By the calls' contracts they are never void.
 fn print_frame(rt: &impl Print, bytes: &[u8], round: u32) -> io::Result<()> {
-    let read = read_frame(bytes, round);
-    if let Read::Valid(frame) = read {
-        let said = frame.said;
-        let sent = frame.round;
-        print!(rt; "{sent}")?;
-        print_column(rt, wide(kind_said(said)))?;
-        print_column(rt, wide(bit_said(said)))?;
-        print_column(rt, number_count(bytes) as u64)
-    } else {
-        print(rt, "void")
+    match read_frame(bytes, round) {
+        Ok(frame) => {
+            let kind = kind_said(frame.said);
+            let bit = bit_said(frame.said);
+            print!(rt; "{} {kind} {bit} {}", frame.round, number_count(bytes))
+        }
+        Err(_) => print!(rt; "void"),
     }
 }
 
 fn print_state(rt: &impl Print, state: State) -> io::Result<()> {
-    let heard = state.heard;
-    let candidates = state.candidates;
-    print_column(rt, heard.len as u64)?;
-    print_column(rt, candidates.len as u64)?;
-    print_column(rt, state.king as u64)?;
-    print_column(rt, wide(state.decision))
+    let heard = state.heard.len;
+    let candidates = state.candidates.len;
+    println!(rt; " {heard} {candidates} {} {}", state.king, state.decision)
 }
 
-// A call's line.
+// A call's line. A call that sends nothing has kind 0 and bit 2.
 fn print_call(rt: &impl Print, answer: Answer, frame: &[u8; 264]) -> io::Result<()> {
-    let refusal = answer.refusal;
-    if refusal == 0 {
-        let state = answer.state;
-        if answer.length == 0 {
-            print_nothing(rt, state.round)?;
-        } else {
-            print_frame(rt, part_of(frame, 0, answer.length), state.round)?;
-        }
-        print_state(rt, state)?;
-    } else {
-        print(rt, "refused")?;
-        print_column(rt, wide(refusal))?;
+    let state = answer.state;
+    if answer.refusal != 0 {
+        return println!(rt; "refused {}", answer.refusal);
     }
-    print(rt, "\n")
+    if answer.length == 0 {
+        print!(rt; "{} 0 2 0", state.round)?;
+    } else {
+        print_frame(rt, part_of(frame, 0, answer.length), state.round)?;
+    }
+    print_state(rt, state)
 }
 
-// Whether the session goes on, and the state that the next tray is handed over with.
-#[derive(Clone, Copy)]
-struct Next {
-    open: bool,
-    state: State,
+// The input ended within a tray, or within its length: the session ends.
+fn cut(rt: &impl Print) -> io::Result<Option<State>> {
+    println!(rt; "cut")?;
+    Ok(None)
 }
 
-fn closed(state: State) -> Next {
-    Next { open: false, state }
-}
-
-fn cut(rt: &impl Print, state: State) -> io::Result<Next> {
-    print(rt, "cut\n")?;
-    Ok(closed(state))
-}
-
-fn hand_over(rt: &impl Print, state: State, bytes: &[u8]) -> io::Result<Next> {
+// Works a tray, and gives the state that the next one is handed over with.
+fn hand_over(rt: &impl Print, state: State, bytes: &[u8]) -> io::Result<Option<State>> {
     let mut frame = [0; 264];
     let answer = tray(state, bytes, &mut frame);
     print_call(rt, answer, &frame)?;
-    let state = answer.state;
-    Ok(Next { open: true, state })
+    Ok(Some(answer.state))
 }
 
 // Reads until `bytes` is full or the input ends, and answers how many bytes there were. A read that a signal cuts short is made again. A proved loop has to
@@ -132,41 +81,42 @@ fn read_full(input: &mut impl io::Read, bytes: &mut [u8]) -> io::Result<usize>
     Ok(done)
 }
 
-// Reads a tray to the start of `bytes`, and answers how much of it there was.
-fn read_tray(input: &mut impl io::Read, bytes: &mut [u8], len: usize) -> io::Result<usize>
-    requires { len ≤ length bytes.old }
+fn tray_of(
+    rt: &impl Print,
+    input: &mut impl io::Read,
+    state: State,
+    len: usize,
+) -> io::Result<Option<State>>
+    requires { len ≤ MAX_TRAY }
 {
-    read_full(input, &mut bytes[0..len])
-}
-
-fn tray_of(rt: &impl Print, input: &mut impl io::Read, state: State, len: usize) -> io::Result<Next>
-    requires { len ≤ 65535 }
-{
-    let mut bytes = [0; 65535];
-    let got = read_tray(input, &mut bytes, len)?;
+    let mut room = [0; 65535];
+    let bytes = &mut room[..len];
+    let got = read_full(input, bytes)?;
     if got < len {
-        cut(rt, state)
+        cut(rt)
     } else {
-        hand_over(rt, state, &bytes[0..len])
+        hand_over(rt, state, bytes)
     }
 }
 
-// The only place where the input may end is before the first byte of a tray's length.
-fn next_tray(rt: &impl Print, input: &mut impl io::Read, state: State) -> io::Result<Next> {
+// The state after the next tray, if there is one. The only place where the input may end is before the first byte of a tray's length.
+fn next_tray(
+    rt: &impl Print,
+    input: &mut impl io::Read,
+    state: State,
+) -> io::Result<Option<State>> {
     let mut size = [0; 4];
-    let got = read_full(input, &mut size)?;
-    if got == 0 {
-        return Ok(closed(state));
+    match read_full(input, &mut size)? {
+        0 => return Ok(None),
+        1..4 => return cut(rt),
+        _ => {}
     }
-    if got < 4 {
-        return cut(rt, state);
-    }
-    let len = word(size[0], size[1], size[2], size[3]);
-    if len <= 65535 {
-        tray_of(rt, input, state, len as usize)
+    let len = u32::from_be_bytes(size) as usize;
+    if len <= MAX_TRAY {
+        tray_of(rt, input, state, len)
     } else {
-        print(rt, "long\n")?;
-        Ok(closed(state))
+        println!(rt; "long")?;
+        Ok(None)
     }
 }
 
@@ -174,11 +124,10 @@ fn next_tray(rt: &impl Print, input: &mut impl io::Read, state: State) -> io::Re
 fn trays(rt: &impl Print, input: &mut impl io::Read, first: State) -> io::Result<()> {
     let mut state = first;
     for _ in 0..u64::MAX {
-        let next = next_tray(rt, input, state)?;
-        if !next.open {
+        let Some(next) = next_tray(rt, input, state)? else {
             break;
-        }
-        state = next.state;
+        };
+        state = next;
     }
     Ok(())
 }
@@ -188,24 +137,19 @@ fn session(rt: &impl Print, input: &mut impl io::Read, number: u32, bit: u8) -> 
     let answer = start(number, bit, &mut frame);
     print_call(rt, answer, &frame)?;
     if answer.refusal == 0 {
-        let state = answer.state;
-        trays(rt, input, state)?;
+        trays(rt, input, answer.state)?;
     }
     Ok(())
 }
 
 fn main(rt: HostRuntime) -> io::Result<()> {
-    print(
-        &rt,
-        "round kind bit echoes heard candidates king decision\n",
-    )?;
+    println!(rt; "round kind bit echoes heard candidates king decision")?;
     let mut input = rt.stdin();
     let mut given = [0; 5];
     let got = read_full(&mut input, &mut given)?;
     if got < 5 {
-        print(&rt, "cut\n")
-    } else {
-        let number = word(given[0], given[1], given[2], given[3]);
-        session(&rt, &mut input, number as u32, given[4])
+        return println!(rt; "cut");
     }
+    let [a, b, c, d, bit] = given;
+    session(&rt, &mut input, u32::from_be_bytes([a, b, c, d]), bit)
 }

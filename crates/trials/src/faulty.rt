@@ -1,7 +1,7 @@
 // What the faulty controller 3 sends, to each receiver and in each round, under each fault.
 ghost use Rattle.std.specs.Prelude.{◌≤◌, ◌<◌};
 
-use crate::packing::{Packet, nothing};
+use crate::packing::Packet;
 use wire::frame::{Frame, kind_of, said_by};
 use wire::limits::{MAX_FRAME, ROSTER, TURN};
 use wire::write::write_frame;
@@ -22,37 +22,33 @@ pub(crate) enum Fault {
     Division,
 }
 
-// A frame that lists the first `count` numbers of the network; nothing where the writer refuses it.
-fn frame(round: u32, bit: u8, count: usize) -> Packet
+// A frame that lists the first `count` numbers of the network; none where the writer refuses it.
+fn frame(round: u32, bit: u8, count: usize) -> Option<Packet>
     requires { count ≤ 4 }
 {
     let numbers = [3, 5, 7, 9];
     let mut bytes = [0; MAX_FRAME];
     let said = said_by(kind_of(round), bit);
-    let written = write_frame(Frame { round, said }, &numbers[0..count], &mut bytes);
-    if written.refusal == 0 {
-        Packet {
-            sender: 3,
-            len: written.length,
-            bytes,
-        }
-    } else {
-        nothing()
-    }
+    let len = write_frame(Frame { round, said }, &numbers[..count], &mut bytes).ok()?;
+    Some(Packet {
+        sender: 3,
+        len,
+        bytes,
+    })
 }
 
-fn by_trial(round: u32, to: u32) -> Packet {
-    if round == 1 {
-        if to == 9 { nothing() } else { frame(1, 2, 0) }
-    } else if round == 2 {
-        if to == 9 { frame(2, 2, 1) } else { void() }
-    } else {
-        nothing()
+fn by_trial(round: u32, to: u32) -> Option<Packet> {
+    match (round, to) {
+        (1, 9) => None,
+        (1, _) => frame(1, 2, 0),
+        (2, 9) => frame(2, 2, 1),
+        (2, _) => Some(void()),
+        _ => None,
     }
 }
 
 // Init, and the roster that a correct controller would send: 3 becomes a candidate, and the king of phase 0.
-fn joining(round: u32) -> Packet {
+fn joining(round: u32) -> Option<Packet> {
     if round == 1 {
         frame(1, 2, 0)
     } else {
@@ -78,26 +74,20 @@ fn turned_bit(round: u32, to: u32) -> u8 {
 }
 
 // A value cannot be none: the writer refuses it, and that receiver gets no frame. As king, 3 has no opinion here.
-fn equivocating(round: u32, to: u32) -> Packet {
-    let kind = kind_of(round);
-    if kind <= ROSTER {
-        joining(round)
-    } else if kind == TURN {
-        frame(round, 2, 0)
-    } else {
-        frame(round, turned_bit(round, to), 0)
+fn equivocating(round: u32, to: u32) -> Option<Packet> {
+    match kind_of(round) {
+        0..=ROSTER => joining(round),
+        TURN => frame(round, 2, 0),
+        _ => frame(round, turned_bit(round, to), 0),
     }
 }
 
 // No value and no proposal, so that nobody in phase 0 is strong and all look to the king.
-fn by_king(round: u32, to: u32) -> Packet {
-    let kind = kind_of(round);
-    if kind <= ROSTER {
-        joining(round)
-    } else if kind == TURN {
-        frame(round, turned_bit(round, to), 0)
-    } else {
-        nothing()
+fn by_king(round: u32, to: u32) -> Option<Packet> {
+    match kind_of(round) {
+        0..=ROSTER => joining(round),
+        TURN => frame(round, turned_bit(round, to), 0),
+        _ => None,
     }
 }
 
@@ -121,23 +111,22 @@ fn listed_to(round: u32, to: u32) -> bool {
 }
 
 // A void frame where it does not list itself, since silence counts as the receiver's own list.
-fn dividing(round: u32, to: u32) -> Packet {
-    if round == 1 {
-        if to == 5 { frame(1, 2, 0) } else { nothing() }
-    } else if listed_to(round, to) {
-        frame(round, 2, 1)
-    } else {
-        void()
+fn dividing(round: u32, to: u32) -> Option<Packet> {
+    match (round, to) {
+        (1, 5) => frame(1, 2, 0),
+        (1, _) => None,
+        _ if listed_to(round, to) => frame(round, 2, 1),
+        _ => Some(void()),
     }
 }
 
-pub(crate) fn sent_to(fault: Fault, round: u32, to: u32) -> Packet {
+pub(crate) fn sent_to(fault: Fault, round: u32, to: u32) -> Option<Packet> {
     match fault {
         Fault::Trial => by_trial(round, to),
-        Fault::Silence => nothing(),
+        Fault::Silence => None,
         Fault::Equivocation => equivocating(round, to),
         Fault::King => by_king(round, to),
-        Fault::Void => void(),
+        Fault::Void => Some(void()),
         Fault::Division => dividing(round, to),
     }
 }

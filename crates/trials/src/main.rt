@@ -2,8 +2,6 @@
 // calls, and their frames are carried from call to call. What is printed comes from the states that the calls return.
 #![tactic(auto)]
 
-ghost use Rattle.std.specs.Prelude.{◌≤◌};
-
 mod faulty;
 mod packing;
 mod report;
@@ -11,8 +9,8 @@ mod report;
 use controller::calls::{start, tray};
 use controller::state::{Answer, State};
 use faulty::{Fault, sent_to};
-use packing::{Packet, TRAY_ROOM, nothing, pack};
-use report::{print, print_change, print_input, print_outcome, print_refusal};
+use packing::{Packet, pack};
+use report::{print_change, print_input, print_outcome, print_refusal};
 use std::io;
 use wire::limits::{MAX_FRAME, NO_BIT};
 
@@ -20,7 +18,7 @@ use wire::limits::{MAX_FRAME, NO_BIT};
 #[derive(Clone, Copy)]
 struct Node {
     state: State,
-    sent: Packet,
+    sent: Option<Packet>,
 }
 
 // The correct controllers 5, 7 and 9.
@@ -31,27 +29,25 @@ struct Network {
     nine: Node,
 }
 
+// A controller with what a call returned and wrote: a call that sends nothing has length 0.
+fn node_after(number: u32, answer: Answer, bytes: [u8; MAX_FRAME]) -> Node {
+    let sent = Packet {
+        sender: number,
+        len: answer.length,
+        bytes,
+    };
+    Node {
+        state: answer.state,
+        sent: (answer.length != 0).then_some(sent),
+    }
+}
+
 fn start_one(rt: &impl Print, number: u32, bit: u8) -> io::Result<Node> {
     let mut bytes = [0; MAX_FRAME];
     let answer = start(number, bit, &mut bytes);
-    let refusal = answer.refusal;
-    let state = answer.state;
-    let len = answer.length;
-    print_refusal(rt, number, refusal)?;
-    print_input(rt, state)?;
-    Ok(Node {
-        state,
-        sent: packet_of(number, len, bytes),
-    })
-}
-
-// What a call gave to send: nothing where the length is 0.
-fn packet_of(sender: u32, len: usize, bytes: [u8; MAX_FRAME]) -> Packet {
-    if len == 0 {
-        nothing()
-    } else {
-        Packet { sender, len, bytes }
-    }
+    print_refusal(rt, number, answer.refusal)?;
+    print_input(rt, answer.state)?;
+    Ok(node_after(number, answer, bytes))
 }
 
 // The bits differ, so that what 3 says can turn the scale.
@@ -63,19 +59,11 @@ fn start_all(rt: &impl Print) -> io::Result<Network> {
     })
 }
 
-// Apart from what surrounds it: the bounds of a part of a parameter need no proof file.
-fn hand_over(was: State, bytes: [u8; TRAY_ROOM], len: usize, out: &mut [u8]) -> Answer
-    requires { len ≤ 824 }
-{
-    tray(was, &bytes[0..len], out)
-}
-
 // One controller's call: its tray of a round holds what the two others sent, and what 3 sends to it. One that has decided gets no more trays.
 fn step_one(
     rt: &impl Print,
     node: Node,
-    other: Packet,
-    another: Packet,
+    others: [Option<Packet>; 2],
     round: u32,
     fault: Fault,
 ) -> io::Result<Node> {
@@ -83,34 +71,22 @@ fn step_one(
     if was.decision != NO_BIT {
         return Ok(node);
     }
-    let number = was.own;
-    let given = pack(round, other, another, sent_to(fault, round, number));
-    let given_bytes = given.bytes;
+    let [one, other] = others;
+    let given = pack(round, [one, other, sent_to(fault, round, was.own)]);
     let mut bytes = [0; MAX_FRAME];
-    let answer = hand_over(was, given_bytes, given.len, &mut bytes);
-    let refusal = answer.refusal;
-    let state = answer.state;
-    let len = answer.length;
-    print_refusal(rt, number, refusal)?;
-    print_change(rt, was, state)?;
-    Ok(Node {
-        state,
-        sent: packet_of(number, len, bytes),
-    })
+    let answer = tray(was, &given.bytes[..given.len], &mut bytes);
+    print_refusal(rt, was.own, answer.refusal)?;
+    print_change(rt, was, answer.state)?;
+    Ok(node_after(was.own, answer, bytes))
 }
 
 // All three work their trays of a round, each made of the frames that were sent in it.
 fn step_all(rt: &impl Print, was: Network, round: u32, fault: Fault) -> io::Result<Network> {
-    let five = was.five;
-    let seven = was.seven;
-    let nine = was.nine;
-    let by_five = five.sent;
-    let by_seven = seven.sent;
-    let by_nine = nine.sent;
+    let Network { five, seven, nine } = was;
     Ok(Network {
-        five: step_one(rt, five, by_seven, by_nine, round, fault)?,
-        seven: step_one(rt, seven, by_five, by_nine, round, fault)?,
-        nine: step_one(rt, nine, by_five, by_seven, round, fault)?,
+        five: step_one(rt, five, [seven.sent, nine.sent], round, fault)?,
+        seven: step_one(rt, seven, [five.sent, nine.sent], round, fault)?,
+        nine: step_one(rt, nine, [five.sent, seven.sent], round, fault)?,
     })
 }
 
@@ -120,38 +96,24 @@ fn play(rt: &impl Print, fault: Fault) -> io::Result<()> {
     for round in 1..15 {
         now = step_all(rt, now, round, fault)?;
     }
-    let five = now.five;
-    let seven = now.seven;
-    let nine = now.nine;
-    print_outcome(rt, five.state, seven.state, nine.state)
+    print_outcome(rt, now.five.state, now.seven.state, now.nine.state)
 }
 
 fn main(rt: HostRuntime) -> io::Result<()> {
-    print(
-        &rt,
-        "last trial of document 01: 3 sends init to 5 and 7, then these a void frame and 9 a roster that lists just 3, then nothing\n",
+    println!(rt;
+        "last trial of document 01: 3 sends init to 5 and 7, then these a void frame and 9 a roster that lists just 3, then nothing"
     )?;
     play(&rt, Fault::Trial)?;
-    print(&rt, "\nsilence: 3 sends nothing\n")?;
+    println!(rt; "\nsilence: 3 sends nothing")?;
     play(&rt, Fault::Silence)?;
-    print(
-        &rt,
-        "\ntwo faces: 3 joins, then tells each another value and another proposal\n",
-    )?;
+    println!(rt; "\ntwo faces: 3 joins, then tells each another value and another proposal")?;
     play(&rt, Fault::Equivocation)?;
-    print(
-        &rt,
-        "\nlying king: 3 joins, then tells each another opinion\n",
-    )?;
+    println!(rt; "\nlying king: 3 joins, then tells each another opinion")?;
     play(&rt, Fault::King)?;
-    print(
-        &rt,
-        "\nvoid frames: 3 sends bytes that are no frame, in every round\n",
-    )?;
+    println!(rt; "\nvoid frames: 3 sends bytes that are no frame, in every round")?;
     play(&rt, Fault::Void)?;
-    print(
-        &rt,
-        "\ndivision: 3 lists itself to just so many that 5 alone has it as a candidate, and stops last\n",
+    println!(rt;
+        "\ndivision: 3 lists itself to just so many that 5 alone has it as a candidate, and stops last"
     )?;
     play(&rt, Fault::Division)
 }

@@ -1,5 +1,3 @@
 -- What several proofs of the crate share, and `NoPlace` with those of `controller`.
 pub mod NoPlace
-pub mod Reach
-pub mod Rest
 pub mod Tests

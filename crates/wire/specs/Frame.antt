@@ -1,31 +1,32 @@
 -- Frames: document 01, "Frames", and the reader's and writer's rows of "Refusals"; the reader's as request A2 of document 02 has them.
 --     kind_of t                 the kind of a frame of round t
---     kind_said, bit_said       the paper's kind and bit of each case of `Said`; bit_chosen, of each case of `Choice`
+--     kind_said, bit_said       the paper's kind and bit of each case of `Said`; bit_chosen, the bit of a proposal or an opinion
 --     said_by k b               what a frame of kind k with bit b says
 --     bit_fits, max_count       the layout table's rows for the bit and the count, by kind
 --     Content                   what a frame holds: its round, what it says, its numbers
 --     read_refusal s t          0, or why the bytes s are void for round t: 11, 12 or 13
 --     content s t               the content of the bytes s, read in round t, if they have one
 --     count_of s                how many numbers the bytes s list; 0 where they have no header
---     number_read r, frame_read r the papers' number of each answer of the reader, and its frame, if it has one
+--     void_number e             the papers' number of each cause by which bytes are void
+--     number_checked r, number_read r, frame_read r    that of each answer of the reader, 0 for none; and its frame, if it has one
+--     number_written r, length_written r    the papers' number of each answer of the writer, 0 for none; and how many bytes it wrote
 --     frame_in o                the frame of a content, without its list; bit_in o, the bit that a content says; 3 for none
 --     write_refusal c n         0, or the refusal for content c and an output buffer of n bytes: 10, then 3
 --     frame_bytes c             the bytes of content c
 -- Bytes of a list are numbers below 256.
 use Rattle.std.specs.Prelude.{ℕ, ◌+◌, ◌*◌, ◌%◌, Bool, true, cond, ◌&&◌, List, [], ◌∷◌, ◌++◌, ◌≡◌, leb, eqb, length, get_or, drop}
-use Rattle.std.proofs.Math.Option.{Option, some, none}
+use Rattle.std.specs.Prelude.{Option, Some, None, Result, Ok, Err}
 use Rattle.wire.specs.Limits.{frame_header, number_width, kind_at, bit_at, count_at, max_numbers, max_frame, last_round}
 use Rattle.wire.specs.Words.{half_at, word_at, half_bytes, word_bytes, words_at, words_bytes}
 use Rattle.wire.specs.Numbers.{rising}
 use Rattle.wire.specs.Refusal.{first_failed}
-use Rattle.wire.specs.declared.frame.Choice.{Choice}
-use Rattle.wire.specs.declared.frame.Choice.TheVariants.{Bit, None}
 use Rattle.wire.specs.declared.frame.Said.{Said}
 use Rattle.wire.specs.declared.frame.Said.TheVariants.{Init, Roster, Value, Proposal, Opinion}
 use Rattle.wire.specs.declared.frame.Frame.{Frame}
-use Rattle.wire.specs.declared.frame.Read.{Read}
-use Rattle.wire.specs.declared.frame.Read.TheVariants.{Valid, WrongLength, WrongRound, WrongContent}
-use Rattle.wire.specs.declared.frame.Written.{Written}
+use Rattle.wire.specs.declared.frame.Void.{Void}
+use Rattle.wire.specs.declared.frame.Void.TheVariants.{WrongLength, WrongRound, WrongContent}
+use Rattle.wire.specs.declared.frame.Unwritten.{Unwritten}
+use Rattle.wire.specs.declared.frame.Unwritten.TheVariants.{NoRoom, NoFrame}
 
 -- ---- kinds and bits
 
@@ -33,8 +34,8 @@ use Rattle.wire.specs.declared.frame.Written.{Written}
 unfoldable pub kind_of : ℕ → ℕ
 kind_of t = cond (eqb t 1) 1 (cond (eqb t 2) 2 (3 + t % 3))
 
-abbrev pub bit_chosen : Choice → ℕ
-bit_chosen (Bit b) = b
+abbrev pub bit_chosen : Option ℕ → ℕ
+bit_chosen (Some b) = b
 bit_chosen None = 2
 
 abbrev pub kind_said : Said → ℕ
@@ -52,8 +53,8 @@ bit_said (Proposal c) = bit_chosen c
 bit_said (Opinion c) = bit_chosen c
 
 -- what byte 5 of a proposal or an opinion stands for
-unfoldable pub chosen_by : ℕ → Choice
-chosen_by b = cond (eqb b 2) None (Bit b)
+unfoldable pub chosen_by : ℕ → Option ℕ
+chosen_by b = cond (eqb b 2) None (Some b)
 
 unfoldable pub said_by : ℕ → ℕ → Said
 said_by k b =
@@ -112,41 +113,47 @@ abbrev pub content_of : List ℕ → ℕ → Content
 content_of s t = record { round = t; said = said_by (kind_of t) (get_or s bit_at 0); numbers = numbers_of s }
 
 unfoldable pub content : List ℕ → ℕ → Option Content
-content s t = cond (eqb (read_refusal s t) 0) (some (content_of s t)) none
+content s t = cond (eqb (read_refusal s t) 0) (Some (content_of s t)) None
 
--- the papers' number of each case of `Read`, 0 for none
-abbrev pub number_read : Read → ℕ
-number_read (Valid f) = 0
-number_read WrongLength = 11
-number_read WrongRound = 12
-number_read WrongContent = 13
+-- the papers' number of each cause
+abbrev pub void_number : Void → ℕ
+void_number WrongLength = 11
+void_number WrongRound = 12
+void_number WrongContent = 13
 
--- the frame that each case has
-abbrev pub frame_read : Read → Option Frame
-frame_read (Valid f) = some f
-frame_read WrongLength = none
-frame_read WrongRound = none
-frame_read WrongContent = none
+-- the number that an answer stands for, 0 where there is no cause
+abbrev pub number_checked : Result Unit Void → ℕ
+number_checked (Ok u) = 0
+number_checked (Err e) = void_number e
+
+abbrev pub number_read : Result Frame Void → ℕ
+number_read (Ok f) = 0
+number_read (Err e) = void_number e
+
+-- the frame that an answer has
+abbrev pub frame_read : Result Frame Void → Option Frame
+frame_read (Ok f) = Some f
+frame_read (Err e) = None
 
 -- round and saying of a content: its list stays in the bytes
 abbrev pub frame_in : Option Content → Option Frame
-frame_in none = none
-frame_in (some c) = some (record { round = c.round; said = c.said })
+frame_in None = None
+frame_in (Some c) = Some (record { round = c.round; said = c.said })
 
 -- what `read_frame` promises of its answer r. No other answer has both
-pub record FrameReads (s : List ℕ) (t : ℕ) (r : Read) : Type 0 where
+pub record FrameReads (s : List ℕ) (t : ℕ) (r : Result Frame Void) : Type 0 where
   pub number : number_read r ≡ read_refusal s t
   pub frame : frame_read r ≡ frame_in (content s t)
 
 -- the bit that a content says; 3, which no frame says, for none
 abbrev pub bit_in : Option Content → ℕ
-bit_in none = 3
-bit_in (some c) = bit_said c.said
+bit_in None = 3
+bit_in (Some c) = bit_said c.said
 
 -- ---- the writer
 
-abbrev pub chosen_fits : Choice → Bool
-chosen_fits (Bit b) = leb b 1
+abbrev pub chosen_fits : Option ℕ → Bool
+chosen_fits (Some b) = leb b 1
 chosen_fits None = true
 
 -- a bit is 0 or 1, and there is one way only to say none
@@ -171,9 +178,20 @@ header_bytes round kind bit count = word_bytes round ++ (kind ∷ bit ∷ half_b
 unfoldable pub frame_bytes : Content → List ℕ
 frame_bytes c = header_bytes c.round (kind_said c.said) (bit_said c.said) (length c.numbers) ++ words_bytes c.numbers
 
+-- the papers' number of each cause of the writer, 0 where there is none
+abbrev pub number_written : Result ℕ Unwritten → ℕ
+number_written (Ok n) = 0
+number_written (Err NoRoom) = 3
+number_written (Err NoFrame) = 10
+
+-- how many bytes are written
+abbrev pub length_written : Result ℕ Unwritten → ℕ
+length_written (Ok n) = n
+length_written (Err e) = 0
+
 -- what `write_frame` promises of its answer r and of the buffer, `before` the call and `after` it
-pub record FrameWrites (c : Content) (before : List ℕ) (r : Written) (after : List ℕ) : Type 0 where
-  pub refusal : r.refusal ≡ write_refusal c (length before)
-  pub written : r.length ≡ cond (eqb (write_refusal c (length before)) 0) (length (frame_bytes c)) 0
+pub record FrameWrites (c : Content) (before : List ℕ) (r : Result ℕ Unwritten) (after : List ℕ) : Type 0 where
+  pub refusal : number_written r ≡ write_refusal c (length before)
+  pub written : length_written r ≡ cond (eqb (write_refusal c (length before)) 0) (length (frame_bytes c)) 0
   pub output :
       after ≡ cond (eqb (write_refusal c (length before)) 0) (frame_bytes c ++ drop (length (frame_bytes c)) before) before

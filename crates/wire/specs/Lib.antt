@@ -4,6 +4,7 @@ pub mod Words
 pub mod Numbers
 pub mod Refusal
 pub mod Frame
+pub mod Texts
 pub mod Tray
 pub mod Found
 pub mod Notes

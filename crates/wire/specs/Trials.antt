@@ -4,7 +4,7 @@
 --     frame_trials    the rows
 --     All P l         each member of l has P
 use Rattle.std.specs.Prelude.{ℕ, List, [], ◌∷◌, ◌≡◌}
-use Rattle.std.proofs.Math.Option.{Option, some, none}
+use Rattle.std.specs.Prelude.{Option, Some, None}
 use Rattle.wire.specs.Frame.{Content, content, read_refusal}
 use Rattle.wire.specs.declared.frame.Said.TheVariants.{Init, Roster}
 
@@ -28,29 +28,29 @@ frame_trials =
     record {
       bytes = 0x00 ∷ 0x00 ∷ 0x00 ∷ 0x01 ∷ 0x01 ∷ 0x02 ∷ 0x00 ∷ 0x00 ∷ [];
       round = 1;
-      expected = some (record { round = 1; said = Init; numbers = [] });
+      expected = Some (record { round = 1; said = Init; numbers = [] });
       number = 0;
     }
     -- "With 00 at offset 5 it is void"
-    ∷ record { bytes = 0x00 ∷ 0x00 ∷ 0x00 ∷ 0x01 ∷ 0x01 ∷ 0x00 ∷ 0x00 ∷ 0x00 ∷ []; round = 1; expected = none; number = 13 }
+    ∷ record { bytes = 0x00 ∷ 0x00 ∷ 0x00 ∷ 0x01 ∷ 0x01 ∷ 0x00 ∷ 0x00 ∷ 0x00 ∷ []; round = 1; expected = None; number = 13 }
     -- "A roster listing 5, 7 reads"
     ∷ record {
       bytes = 0x00 ∷ 0x00 ∷ 0x00 ∷ 0x02 ∷ 0x02 ∷ 0x02 ∷ 0x00 ∷ 0x02 ∷ 0x00 ∷ 0x00 ∷ 0x00 ∷ 0x05 ∷ 0x00 ∷ 0x00 ∷ 0x00 ∷ 0x07 ∷ [];
       round = 2;
-      expected = some (record { round = 2; said = Roster; numbers = 5 ∷ 7 ∷ [] });
+      expected = Some (record { round = 2; said = Roster; numbers = 5 ∷ 7 ∷ [] });
       number = 0;
     }
     -- "7, 5 and 5, 5 are void"
     ∷ record {
       bytes = 0x00 ∷ 0x00 ∷ 0x00 ∷ 0x02 ∷ 0x02 ∷ 0x02 ∷ 0x00 ∷ 0x02 ∷ 0x00 ∷ 0x00 ∷ 0x00 ∷ 0x07 ∷ 0x00 ∷ 0x00 ∷ 0x00 ∷ 0x05 ∷ [];
       round = 2;
-      expected = none;
+      expected = None;
       number = 13;
     }
     ∷ record {
       bytes = 0x00 ∷ 0x00 ∷ 0x00 ∷ 0x02 ∷ 0x02 ∷ 0x02 ∷ 0x00 ∷ 0x02 ∷ 0x00 ∷ 0x00 ∷ 0x00 ∷ 0x05 ∷ 0x00 ∷ 0x00 ∷ 0x00 ∷ 0x05 ∷ [];
       round = 2;
-      expected = none;
+      expected = None;
       number = 13;
     }
     ∷ []

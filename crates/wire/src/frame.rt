@@ -1,70 +1,93 @@
 // Frames: what a controller sends in a round, and how its fields go with one another. The layout is that of document 01, "Frames";
 // specs/Frame.antt says what each call answers. src/read.rt reads a frame, src/write.rt writes one.
-ghost use Rattle.std.specs.Prelude.{◌≡◌};
+ghost use Rattle.std.specs.Prelude.{◌≡◌, Some};
 ghost use Rattle.wire.specs.Numbers.{rising};
 ghost use Rattle.wire.specs.Frame.{kind_of, chosen_by, said_by, bit_fits, max_count, round_fits, bit_chosen, kind_said, bit_said};
+ghost use Rattle.wire.specs.Texts.{void_text, unwritten_text};
 
 use crate::limits::{INIT, LAST_ROUND, MAX_NUMBERS, NO_BIT, PROPOSE, ROSTER, TURN, VALUE};
+use std::error::Error;
+use std::fmt;
 
-// A proposal or an opinion: a bit, or none. Document 01's 2 (none) is `None` alone.
-#[derive(Clone, Copy)]
-pub enum Choice {
-    Bit(u8),
-    None,
-}
-
-// What a frame says. The list of a roster or an opinion stands beside it.
-#[derive(Clone, Copy)]
+// What a frame says. The list of a roster or an opinion stands beside it. A proposal or an opinion is a bit or none: document 01's 2 (none) is `None` alone.
+#[derive(Clone, Copy, Debug, PartialEq, Eq)]
 pub enum Said {
     Init,
     Roster,
     Value(u8),
-    Proposal(Choice),
-    Opinion(Choice),
+    Proposal(Option<u8>),
+    Opinion(Option<u8>),
 }
 
-#[derive(Clone, Copy)]
+#[derive(Clone, Copy, Debug, PartialEq, Eq)]
 pub struct Frame {
     pub round: u32,
     pub said: Said,
 }
 
-// A list of controller numbers: `len` used places, the others 0.
+// A list of controller numbers: `len` used places, the others 0. It stays an array with its length, since a `Vec` could run out of memory, and no call of the
+// engine can; any places make one, since a state with any lists is refused or worked (`tray`, `is_sound`).
 #[derive(Clone, Copy)]
 pub struct Numbers {
     pub len: usize,
     pub at: [u32; MAX_NUMBERS],
 }
 
-// What bytes read as in the round expected: a frame, or void, document 01's word, with the cause by which request A2 of document 02 sorts it.
-#[derive(Clone, Copy)]
-pub enum Read {
-    Valid(Frame),
-    // 11: fewer bytes than a header has, or not as many as the count says.
-    WrongLength,
-    // 12: of another round or kind; or there is no such round.
-    WrongRound,
-    // 13: a bit, a count or a list that its kind does not allow.
-    WrongContent,
+// Why bytes are void, document 01's word, in the round expected: the causes by which request A2 of document 02 sorts them, each with its number.
+#[derive(Clone, Copy, Debug, PartialEq, Eq)]
+pub enum Void {
+    // Fewer bytes than a header has, or not as many as the count says.
+    WrongLength = 11,
+    // Of another round or kind; or there is no such round.
+    WrongRound = 12,
+    // A bit, a count or a list that its kind does not allow.
+    WrongContent = 13,
 }
 
-// The refusal, 0 for none, and the number of bytes written.
-#[derive(Clone, Copy)]
-pub struct Written {
-    pub refusal: u8,
-    pub length: usize,
+impl fmt::Display for Void {
+    ghost output = { λ e. Some (void_text e) };
+
+    fn fmt<W: fmt::Write>(&self, f: &mut fmt::Formatter<W>) -> fmt::Result {
+        f.write_str(match self {
+            Void::WrongLength => "wrong length",
+            Void::WrongRound => "wrong round or kind",
+            Void::WrongContent => "wrong content",
+        })
+    }
 }
+
+impl Error for Void {}
+
+// Why a frame is not written, each cause with its number.
+#[derive(Clone, Copy, Debug, PartialEq, Eq)]
+pub enum Unwritten {
+    // The buffer is shorter than the longest frame.
+    NoRoom = 3,
+    // What is given is no frame.
+    NoFrame = 10,
+}
+
+impl fmt::Display for Unwritten {
+    ghost output = { λ e. Some (unwritten_text e) };
+
+    fn fmt<W: fmt::Write>(&self, f: &mut fmt::Formatter<W>) -> fmt::Result {
+        f.write_str(match self {
+            Unwritten::NoRoom => "no room",
+            Unwritten::NoFrame => "no frame",
+        })
+    }
+}
+
+impl Error for Unwritten {}
 
 // The kind of a frame of a round.
 pub fn kind_of(round: u32) -> u8
     ensures { result ≡ kind_of round }
 {
-    if round == 1 {
-        INIT
-    } else if round == 2 {
-        ROSTER
-    } else {
-        (3 + round % 3) as u8
+    match round {
+        1 => INIT,
+        2 => ROSTER,
+        _ => (3 + round % 3) as u8,
     }
 }
 
@@ -72,12 +95,9 @@ pub fn kind_of(round: u32) -> u8
 pub fn max_count(kind: u8) -> usize
     ensures { result ≡ max_count kind }
 {
-    if kind == ROSTER {
-        MAX_NUMBERS
-    } else if kind == TURN {
-        MAX_NUMBERS
-    } else {
-        0
+    match kind {
+        ROSTER | TURN => MAX_NUMBERS,
+        _ => 0,
     }
 }
 
@@ -88,14 +108,10 @@ pub fn round_fits(round: u32) -> bool
 }
 
 // What byte 5 of a proposal or an opinion stands for.
-fn chosen_by(bit: u8) -> Choice
+fn chosen_by(bit: u8) -> Option<u8>
     ensures { result ≡ chosen_by bit }
 {
-    if bit == NO_BIT {
-        Choice::None
-    } else {
-        Choice::Bit(bit)
-    }
+    if bit == NO_BIT { None } else { Some(bit) }
 }
 
 // What a frame of a kind with a bit says. The choice is made first, once: so the compiler keeps it out of memory.
@@ -103,40 +119,32 @@ pub fn said_by(kind: u8, bit: u8) -> Said
     ensures { result ≡ said_by kind bit }
 {
     let choice = chosen_by(bit);
-    if kind == INIT {
-        Said::Init
-    } else if kind == ROSTER {
-        Said::Roster
-    } else if kind == VALUE {
-        Said::Value(bit)
-    } else if kind == PROPOSE {
-        Said::Proposal(choice)
-    } else {
-        Said::Opinion(choice)
+    match kind {
+        INIT => Said::Init,
+        ROSTER => Said::Roster,
+        VALUE => Said::Value(bit),
+        PROPOSE => Said::Proposal(choice),
+        _ => Said::Opinion(choice),
     }
 }
 
 pub fn bit_fits(kind: u8, bit: u8) -> bool
     ensures { result ≡ bit_fits kind bit }
 {
-    if kind <= ROSTER {
-        bit == NO_BIT
-    } else if kind == VALUE {
-        bit <= 1
-    } else {
-        bit <= 2
+    match kind {
+        0..=ROSTER => bit == NO_BIT,
+        VALUE => bit <= 1,
+        _ => bit <= 2,
     }
 }
 
-fn bit_chosen(choice: Choice) -> u8
+fn bit_chosen(choice: Option<u8>) -> u8
     ensures { result ≡ bit_chosen choice }
 {
-    match choice {
-        Choice::Bit(b) => b,
-        Choice::None => NO_BIT,
-    }
+    choice.unwrap_or(NO_BIT)
 }
 
+// The kind of what is said, and in `bit_said` its bit: two numbers of one value, each with its definition, so that neither is a `From`.
 pub fn kind_said(said: Said) -> u8
     ensures { result ≡ kind_said said }
 {
@@ -153,26 +161,22 @@ pub fn bit_said(said: Said) -> u8
     ensures { result ≡ bit_said said }
 {
     match said {
-        Said::Init => NO_BIT,
-        Said::Roster => NO_BIT,
+        Said::Init | Said::Roster => NO_BIT,
         Said::Value(b) => b,
-        Said::Proposal(c) => bit_chosen(c),
-        Said::Opinion(c) => bit_chosen(c),
+        Said::Proposal(c) | Said::Opinion(c) => bit_chosen(c),
     }
 }
 
-// Whether numbers rise strictly from above 0. A loop with no way out is compiled to tests of four numbers at once.
+// Whether numbers rise strictly from above 0. A loop with no way out is compiled to tests of four numbers at once. `numbers_rise` asks the same of numbers in
+// bytes: over an iterator of numbers both would be longer.
 pub fn rise(numbers: &[u32]) -> bool
     ensures { result ≡ rising 0 numbers.now }
 {
     let mut ok = true;
     let mut last = 0;
-    let mut i = 0;
-    while i < numbers.len() {
-        let number = numbers[i];
-        ok = ok & (last < number);
+    for &number in numbers {
+        ok &= last < number;
         last = number;
-        i += 1;
     }
     ok
 }

@@ -11,7 +11,7 @@ pub const BIT_AT: usize = 5;
 
 pub const COUNT_AT: usize = 6;
 
-// Frames: document 01's kinds.
+// Frames: document 01's kinds. They stay numbers: `max_count`, `bit_fits` and `said_by` promise an answer for any; the enum of what a frame says is `Said`.
 pub const INIT: u8 = 1;
 
 pub const ROSTER: u8 = 2;
@@ -22,15 +22,9 @@ pub const PROPOSE: u8 = 4;
 
 pub const TURN: u8 = 5;
 
-// Document 01's 2: no bit. Init and roster have it, and a proposal, an opinion or a decision that there is not.
+// Document 01's 2: no bit. Init and roster have it, and a proposal, an opinion or a decision that there is not. It stays a number, as the contracts of
+// `bit_fits` and `said_by` take any byte, and a state has any.
 pub const NO_BIT: u8 = 2;
-
-// Refusals of the reader: why bytes are void.
-pub const WRONG_LENGTH: u8 = 11;
-
-pub const WRONG_ROUND: u8 = 12;
-
-pub const WRONG_CONTENT: u8 = 13;
 
 // Frames: the most numbers, the longest frame, the last round.
 pub const MAX_NUMBERS: usize = 64;

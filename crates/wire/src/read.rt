@@ -1,15 +1,15 @@
-// The frame reader: document 01, "Frames", and request A2 of document 02. A frame's numbers stay in its bytes.
-ghost use Rattle.std.specs.Prelude.{◌≡◌, cond, ◌+◌, ◌*◌, ◌≤◌, leb, length};
+// The frame reader: document 01, "Frames", and request A2 of document 02. A frame's numbers stay in its bytes. Where the bytes end before a number it is 0
+// and no `None`, as `count_of`, `head_from` and the contract of `read_number` have it.
+ghost use Rattle.std.specs.Prelude.{◌≡◌, cond, ◌+◌, ◌*◌, ◌≤◌, ◌<◌, leb, length, map, take, drop, MatchOption};
+ghost use Rattle.std.specs.Int.{w32, from_be_bytes};
 ghost use Rattle.wire.specs.Limits.{frame_header, number_width};
 ghost use Rattle.wire.specs.Numbers.{rising};
-ghost use Rattle.wire.specs.Words.{word_at, words_at};
+ghost use Rattle.wire.specs.Words.{word_at};
 ghost use Rattle.wire.specs.Heads.{head_of, head_from};
-ghost use Rattle.wire.specs.Frame.{count_of, length_fits, head_fits, list_fits, body_fits, read_refusal, FrameReads};
+ghost use Rattle.wire.specs.Frame.{count_of, length_fits, head_fits, list_fits, body_fits, read_refusal, number_checked, FrameReads};
 
-use crate::frame::{Frame, Read, bit_fits, kind_of, max_count, round_fits, said_by};
-use crate::limits::{
-    BIT_AT, COUNT_AT, FRAME_HEADER, KIND_AT, NUMBER_WIDTH, WRONG_CONTENT, WRONG_LENGTH, WRONG_ROUND,
-};
+use crate::frame::{Frame, Void, bit_fits, kind_of, max_count, round_fits, said_by};
+use crate::limits::{BIT_AT, COUNT_AT, FRAME_HEADER, KIND_AT, NUMBER_WIDTH};
 use crate::word::{half, word};
 
 // How many numbers the bytes of a frame list; 0 for bytes without a header.
@@ -23,15 +23,19 @@ pub fn number_count(bytes: &[u8]) -> usize
     }
 }
 
+// The `N` bytes from a place on, where there are as many.
+fn chunk_at<const N: usize>(bytes: &[u8], at: usize) -> Option<&[u8; N]>
+    ensures { MatchOption result (length bytes.now < at + N) (λ chunk. (at + N ≤ length bytes.now) × (chunk.now ≡ take N (drop at bytes.now))) }
+{
+    bytes.get(at..)?.first_chunk()
+}
+
 // The number in the four bytes from a place on: one of a frame's list, in the frame or in the tray that it lies in. 0 where the bytes end before it.
 pub fn read_number(bytes: &[u8], at: usize) -> u32
     ensures { result ≡ cond (leb (at + number_width) (length bytes.now)) (word_at bytes.now at) 0 }
 {
-    if bytes.len() < NUMBER_WIDTH {
-        return 0;
-    }
-    if at <= bytes.len() - NUMBER_WIDTH {
-        word(bytes, at)
+    if let Some(number) = chunk_at(bytes, at) {
+        u32::from_be_bytes(*number)
     } else {
         0
     }
@@ -48,39 +52,25 @@ pub fn head_of(round: u32, bit: u8) -> u64
 pub fn read_head(bytes: &[u8], at: usize) -> u64
     ensures { result ≡ head_from bytes.now at }
 {
-    if bytes.len() < FRAME_HEADER {
-        return 0;
-    }
-    if at <= bytes.len() - FRAME_HEADER {
-        word(bytes, at) as u64 * 4294967296 + word(bytes, at + 4) as u64
+    if let Some(head) = chunk_at(bytes, at) {
+        u64::from_be_bytes(*head)
     } else {
         0
     }
 }
 
-// Whether a frame's numbers rise strictly from above 0. Two numbers in each turn take half the time of one.
-fn numbers_rise(bytes: &[u8], count: usize) -> bool
-    requires { length bytes.now ≡ frame_header + number_width * count }
-    ensures { result ≡ rising 0 (words_at bytes.now frame_header count) }
+// Whether numbers of four bytes each rise strictly from above 0. The loop has no way out, as that of `rise`.
+fn numbers_rise(numbers: &[[u8; NUMBER_WIDTH]]) -> bool
+    ensures { result ≡ rising 0 (map (from_be_bytes w32) numbers.now) }
 {
+    let mut ok = true;
     let mut last = 0;
-    let mut i = 0;
-    while i + 2 <= count {
-        let at = FRAME_HEADER + NUMBER_WIDTH * i;
-        let x = word(bytes, at);
-        let y = word(bytes, at + NUMBER_WIDTH);
-        if (last < x) & (x < y) {
-            last = y;
-            i += 2;
-        } else {
-            return false;
-        }
+    for number in numbers {
+        let number = u32::from_be_bytes(*number);
+        ok &= last < number;
+        last = number;
     }
-    if i < count {
-        last < word(bytes, FRAME_HEADER + NUMBER_WIDTH * i)
-    } else {
-        true
-    }
+    ok
 }
 
 fn length_fits(bytes: &[u8]) -> bool
@@ -103,11 +93,7 @@ fn list_fits(bytes: &[u8], kind: u8) -> bool
     ensures { result ≡ list_fits bytes.now kind }
 {
     let count = number_count(bytes);
-    if count == 0 {
-        true
-    } else {
-        count <= max_count(kind) && numbers_rise(bytes, count)
-    }
+    count == 0 || (count <= max_count(kind) && numbers_rise(bytes[FRAME_HEADER..].as_chunks().0))
 }
 
 // Whether the bit and the numbers of bytes of a fitting length are such as a frame of a kind may have.
@@ -118,36 +104,26 @@ fn body_fits(bytes: &[u8], kind: u8) -> bool
     bit_fits(kind, bytes[BIT_AT]) && list_fits(bytes, kind)
 }
 
-// Why bytes are void in a round: 11, 12 or 13, tested in this order; 0 where they are a frame. For any bytes and any round.
-pub fn read_refusal(bytes: &[u8], round: u32) -> u8
-    ensures { result ≡ read_refusal bytes.now round }
+// Whether bytes are a frame of a round, or why they are void: for any bytes and any round. The causes are tested in the order of their numbers.
+pub fn check_frame(bytes: &[u8], round: u32) -> Result<(), Void>
+    ensures { number_checked result ≡ read_refusal bytes.now round }
 {
     if !length_fits(bytes) {
-        WRONG_LENGTH
+        Err(Void::WrongLength)
     } else if !head_fits(bytes, round) {
-        WRONG_ROUND
+        Err(Void::WrongRound)
     } else if !body_fits(bytes, bytes[KIND_AT]) {
-        WRONG_CONTENT
+        Err(Void::WrongContent)
     } else {
-        0
+        Ok(())
     }
 }
 
 // What bytes say in a round, or why they are void: for any bytes and any round.
-pub fn read_frame(bytes: &[u8], round: u32) -> Read
+pub fn read_frame(bytes: &[u8], round: u32) -> Result<Frame, Void>
     ensures { FrameReads bytes.now round result }
 {
-    let refusal = read_refusal(bytes, round);
-    if refusal == 0 {
-        Read::Valid(Frame {
-            round,
-            said: said_by(kind_of(round), bytes[BIT_AT]),
-        })
-    } else if refusal == WRONG_LENGTH {
-        Read::WrongLength
-    } else if refusal == WRONG_ROUND {
-        Read::WrongRound
-    } else {
-        Read::WrongContent
-    }
+    check_frame(bytes, round)?;
+    let said = said_by(kind_of(round), bytes[BIT_AT]);
+    Ok(Frame { round, said })
 }

@@ -1,5 +1,5 @@
 // Trays: the frames of one round, as a host hands them over. The layout is that of document 01, "Trays"; specs/Tray.antt says what each call
-// answers, outside the directory too.
+// answers, outside the directory too: there a number is 0 and no `None`, as `round_of`, `entry_count` and `word_of` have it.
 ghost use Rattle.std.specs.Prelude.{◌≡◌, ◌+◌, ◌≤◌, leb, length};
 ghost use Rattle.wire.specs.Limits.{entry_width, offset_at};
 ghost use Rattle.wire.specs.Tray.{well_formed, round_of, entry_count, entry_at, directory, word_of, chained, part};
@@ -38,19 +38,19 @@ fn lies_in(tray: &[u8], offset: usize, len: usize) -> bool
     offset <= tray.len() && len <= tray.len() - offset
 }
 
-// The `len` bytes from `offset` on; no bytes where they run past the tray's end.
-pub fn part_of<'a>(tray: &'a [u8], offset: usize, len: usize) -> &'a [u8]
+// The `len` bytes from `offset` on; no bytes where they run past the tray's end. Document 01 names this form of a part.
+pub fn part_of(tray: &[u8], offset: usize, len: usize) -> &[u8]
     ensures { result.now ≡ part tray.now offset len }
 {
     if lies_in(tray, offset, len) {
         &tray[offset..offset + len]
     } else {
-        &tray[0..0]
+        &[]
     }
 }
 
 // The directory: the entries' bytes. No bytes where they run past the tray's end.
-pub fn directory<'a>(tray: &'a [u8]) -> &'a [u8]
+pub fn directory(tray: &[u8]) -> &[u8]
     ensures { result.now ≡ directory tray.now }
 {
     part_of(tray, TRAY_HEADER, ENTRY_WIDTH * entry_count(tray))
@@ -68,7 +68,8 @@ fn entry_word(directory: &[u8], i: usize, at: usize) -> u32
     }
 }
 
-// The sender of entry `i` of a directory; 0 where there is no such entry.
+// The sender of entry `i` of a directory; 0 where there is no such entry. It and `entry_place` are two columns; with the column as a parameter they would
+// say no more.
 pub fn entry_sender(directory: &[u8], i: usize) -> u32
     ensures { result ≡ word_of directory.now i 0 }
 {
@@ -88,14 +89,12 @@ fn frames_follow(tray: &[u8], count: usize) -> bool
     ensures { result ≡ chained tray.now count 0 (entry_at count) }
 {
     let mut end = TRAY_HEADER + ENTRY_WIDTH * count;
-    let mut i = 0;
-    while i < count {
+    for i in 0..count {
         let entry = TRAY_HEADER + ENTRY_WIDTH * i;
         if half(tray, entry + OFFSET_AT) != end {
             return false;
         }
         end += half(tray, entry + LENGTH_AT);
-        i += 1;
     }
     end == tray.len()
 }

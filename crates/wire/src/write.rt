@@ -7,31 +7,26 @@ ghost use Rattle.wire.specs.Frame.{kind_of, kind_said, bit_said, chosen_fits, sa
 ghost use Rattle.wire.specs.Laid.{FrameLays};
 
 use crate::frame::{
-    Choice, Frame, Said, Written, bit_said, kind_of, kind_said, max_count, rise, round_fits,
+    Frame, Said, Unwritten, bit_said, kind_of, kind_said, max_count, rise, round_fits,
 };
 use crate::limits::{
     BIT_AT, COUNT_AT, FRAME_HEADER, KIND_AT, MAX_FRAME, MAX_NUMBERS, NUMBER_WIDTH,
 };
 use crate::word::{put_half, put_word};
 
-fn chosen_fits(choice: Choice) -> bool
+fn chosen_fits(choice: Option<u8>) -> bool
     ensures { result ≡ chosen_fits choice }
 {
-    match choice {
-        Choice::Bit(b) => b <= 1,
-        Choice::None => true,
-    }
+    choice.is_none_or(|b| b <= 1)
 }
 
 fn said_fits(said: Said) -> bool
     ensures { result ≡ said_fits said }
 {
     match said {
-        Said::Init => true,
-        Said::Roster => true,
+        Said::Init | Said::Roster => true,
         Said::Value(b) => b <= 1,
-        Said::Proposal(c) => chosen_fits(c),
-        Said::Opinion(c) => chosen_fits(c),
+        Said::Proposal(c) | Said::Opinion(c) => chosen_fits(c),
     }
 }
 
@@ -73,15 +68,14 @@ fn put_numbers(out: &mut [u8], numbers: &[u32])
     requires { frame_header + number_width * length numbers.now ≤ length out.old }
     ensures { out.new ≡ sets out.old frame_header (words_bytes numbers.now) }
 {
-    let mut i = 0;
-    while i < numbers.len() {
-        put_word(out, FRAME_HEADER + NUMBER_WIDTH * i, numbers[i]);
-        i += 1;
+    for (i, &number) in numbers.iter().enumerate() {
+        put_word(out, FRAME_HEADER + NUMBER_WIDTH * i, number);
     }
 }
 
 // Writes the bytes of a frame of a round at the start of `out`, and returns how many they are. What the frame says is not tested: that is for who knows
-// that it is one. Nothing is written, and 0 returned, where `out` is too short for the longest frame or there are more than 64 numbers.
+// that it is one. Nothing is written, and 0 returned, which is a length too (`FrameLays`), where `out` is too short for the longest frame or there are more
+// than 64 numbers.
 pub fn lay_frame(round: u32, bit: u8, numbers: &[u32], out: &mut [u8]) -> usize
     ensures { FrameLays round bit numbers.now out.old result out.new }
 {
@@ -96,28 +90,18 @@ pub fn lay_frame(round: u32, bit: u8, numbers: &[u32], out: &mut [u8]) -> usize
     FRAME_HEADER + NUMBER_WIDTH * numbers.len()
 }
 
-// Writes a frame at the start of `out`, or refuses (10, then 3) and leaves `out` as it is.
-pub fn write_frame(frame: Frame, numbers: &[u32], out: &mut [u8]) -> Written
+// Writes a frame at the start of `out`, and returns how many bytes it has; or refuses (10, then 3) and leaves `out` as it is.
+pub fn write_frame(frame: Frame, numbers: &[u32], out: &mut [u8]) -> Result<usize, Unwritten>
     ensures { FrameWrites (record { round = frame.round; said = frame.said; numbers = numbers.now })
         out.old result out.new }
 {
-    if writable(frame, numbers) {
-        if out.len() < MAX_FRAME {
-            return Written {
-                refusal: 3,
-                length: 0,
-            };
-        }
-        put_header(out, frame, numbers.len());
-        put_numbers(out, numbers);
-        Written {
-            refusal: 0,
-            length: FRAME_HEADER + NUMBER_WIDTH * numbers.len(),
-        }
-    } else {
-        Written {
-            refusal: 10,
-            length: 0,
-        }
+    if !writable(frame, numbers) {
+        return Err(Unwritten::NoFrame);
     }
+    if out.len() < MAX_FRAME {
+        return Err(Unwritten::NoRoom);
+    }
+    put_header(out, frame, numbers.len());
+    put_numbers(out, numbers);
+    Ok(FRAME_HEADER + NUMBER_WIDTH * numbers.len())
 }

@@ -2,7 +2,7 @@
 use Rattle.std.specs.Prelude.{ℕ, ◌<◌, ◌≤◌, Bool, true, false, cond, List, [], ◌∷◌, ◌++◌, ◌⊎◌, ◌≢◌, ◌≡◌, eqb, length}
 use Rattle.std.proofs.Common.{true≢false, inl, inr, sym, ap, ◌∙◌, subst, le_refl, le_trans, arith}
 use Rattle.std.proofs.Math.Bool.{and-false}
-use Rattle.std.proofs.Math.Option.{Option, some, none}
+use Rattle.std.specs.Prelude.{Option, Some, None}
 use Rattle.std.proofs.Math.Path.{refl}
 use Rattle.std.proofs.Math.Seq.{map-set_same}
 use Rattle.wire.specs.Frame.{Content, content}
@@ -42,12 +42,12 @@ test_last ((false, j) ∷ ts) t t' k passes r = refl
 -- ---- fewer frames
 
 -- as r, but some frames are not had: no list grows
-module _ (v : View) (h : Sound v) (r r' : Received) (same : r'.heard ≡ r.heard) (frames : (x : ℕ) → (r'.from x ≡ r.from x) ⊎ (r'.from x ≡ none))
+module _ (v : View) (h : Sound v) (r r' : Received) (same : r'.heard ≡ r.heard) (frames : (x : ℕ) → (r'.from x ≡ r.from x) ⊎ (r'.from x ≡ None))
     (up : Rising r.heard) (some : 0 < length r.heard) where
   abbrev c : Rotor
   c = v.rotor
 
-  still_says : (P : Option Content → Bool) → P none ≡ false → (x : ℕ) → P (r'.from x) ≡ true → P (r.from x) ≡ true
+  still_says : (P : Option Content → Bool) → P None ≡ false → (x : ℕ) → P (r'.from x) ≡ true → P (r.from x) ≡ true
   still_says P void x t = elim (frames x) [
     | inl e ↦ rw e at t
     | inr e ↦ absurd (true≢false (sym (rw e at t) ∙ void))
@@ -101,7 +101,7 @@ pub record Damaged (s : State) (b b' : List ℕ) : Type 0 where
   pub packed : well_formed b' ≡ true
   pub round : round_of b' ≡ round_of b
   pub same_senders : senders (entries b') ≡ senders (entries b)
-  pub frames : (x : ℕ) → ((receive (view s) (entries b')).from x ≡ (receive (view s) (entries b)).from x) ⊎ ((receive (view s) (entries b')).from x ≡ none)
+  pub frames : (x : ℕ) → ((receive (view s) (entries b')).from x ≡ (receive (view s) (entries b)).from x) ⊎ ((receive (view s) (entries b')).from x ≡ None)
 
 -- damage after damage is damage, so what holds of one damaged frame holds of any number of them
 pub damaged_again : {s : State} {a b c : List ℕ} → Damaged s a b → Damaged s b c → Damaged s a c
@@ -155,28 +155,28 @@ damaged_refusal s b b' n h d r =
 -- ---- damaged bytes
 
 -- a number whose frame is not had: the own one has its own frame
-fewer : (t : Bool) (o r : Option Content) → (cond t o none ≡ cond t o r) ⊎ (cond t o none ≡ none)
+fewer : (t : Bool) (o r : Option Content) → (cond t o None ≡ cond t o r) ⊎ (cond t o None ≡ None)
 fewer true o r = inl refl
 fewer false o r = inr refl
 
 -- what is had of another number
 abbrev had_of : View → List Entry → ℕ → Option Content
-had_of v es x = cond (silent v es x) (some (stand_in v)) (read_in v.round (under x es))
+had_of v es x = cond (silent v es x) (Some (stand_in v)) (read_in v.round (under x es))
 
 -- where there is under x what there was, or one void frame, or several, the frame had from x is as before or none; the own frame comes from no tray
-received_damaged : (v : View) (new : List ℕ) (es es' : List Entry) (x : ℕ) → content new v.round ≡ none
+received_damaged : (v : View) (new : List ℕ) (es es' : List Entry) (x : ℕ) → content new v.round ≡ None
     → (under x es' ≡ under x es) ⊎ ((under x es' ≡ one new) ⊎ (under x es' ≡ several))
-    → ((receive v es').from x ≡ (receive v es).from x) ⊎ ((receive v es').from x ≡ none)
+    → ((receive v es').from x ≡ (receive v es).from x) ⊎ ((receive v es').from x ≡ None)
 unfolding receive
 received_damaged v new es es' x void (inl e) = inl (rw e)
 received_damaged v new es es' x void (inr (inl e)) =
-    rw (e, and-false (mem x v.rotor.heard), void) (fewer (eqb x v.own) (some (frame_of v)) (had_of v es x))
+    rw (e, and-false (mem x v.rotor.heard), void) (fewer (eqb x v.own) (Some (frame_of v)) (had_of v es x))
 received_damaged v new es es' x void (inr (inr e)) =
-    rw (e, and-false (mem x v.rotor.heard)) (fewer (eqb x v.own) (some (frame_of v)) (had_of v es x))
+    rw (e, and-false (mem x v.rotor.heard)) (fewer (eqb x v.own) (Some (frame_of v)) (had_of v es x))
 
 -- a frame of a well packed tray overwritten by as many bytes that are void in the state's round
 module _ (s : State) (b : List ℕ) (i : ℕ) (new : List ℕ) (packed : well_formed b ≡ true) (counted : i < entry_count b)
-    (as_many : length new ≡ length_of b i) (void : content new s.round ≡ none) where
+    (as_many : length new ≡ length_of b i) (void : content new s.round ≡ None) where
   overwritten_senders : senders (entries (overwritten b i new)) ≡ senders (entries b)
   overwritten_senders =
       let e : Entry = record { sender = sender b i; bytes = new } in

@@ -5,7 +5,7 @@ use mathlib.Core.List.Memᴰ
 use mathlib.Core.List.Permᴰ
 use mathlib.Core.List.{Permᴰ}
 use Rattle.std.proofs.Math.Logic.{inl, inr}
-use Rattle.std.proofs.Math.Option.{some}
+use Rattle.std.specs.Prelude.{Some}
 use Rattle.std.proofs.Common.{sym, ap, ◌∙◌, List}
 use Rattle.wire.specs.Laws.Found.{under_order}
 use Rattle.wire.specs.Tray.{Entry, well_formed, round_of, entries}
@@ -68,7 +68,7 @@ module _ {es fs : List Entry} (p : Permᴰ es fs) where
         heard = heard i;
         from = λ x.
             let u = under_order x p i in
-            cond (eqb x v.own) (some (frame_of v)) (cond (mem x v.rotor.heard && is_nothing u) (some (stand_in v)) (read_in v.round u));
+            cond (eqb x v.own) (Some (frame_of v)) (cond (mem x v.rotor.heard && is_nothing u) (Some (stand_in v)) (read_in v.round u));
       }
 
 -- ---- what a call promises

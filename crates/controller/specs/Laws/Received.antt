@@ -3,7 +3,7 @@ use Rattle.std.specs.Prelude.{ℕ, zero, suc, ◌+◌, ◌-◌, ◌≤◌, ◌<�
 use Rattle.std.proofs.Math.Bool.{and-false}
 use mathlib.Core.List.Memᴰ
 use Rattle.std.proofs.Common.{inl, inr, ◌∙◌, ap, leb-false, le-leb, eq-eqb, ne_eqb, arith}
-use Rattle.std.proofs.Math.Option.{Option, some, none}
+use Rattle.std.specs.Prelude.{Option, Some, None}
 use Rattle.std.proofs.Math.Decide.{ℕ_discrete}
 use Rattle.wire.specs.Frame.{Content, content, kind_of, kind_said, bit_said, bit_in, bit_fits, frame_bytes, round_fits, writable, max_count}
 use Rattle.wire.specs.Laws.Frame.{kind_range, said_kind, said_bit, said_allowed, said_bound, writable_gives, reads_written, read_kind, read_writable}
@@ -57,7 +57,7 @@ under_entry x es i =
     let e = Memᴰ.of_map (λ (e : Entry). e.sender) es i in
     elim (under_member x e.0 es e.1 e.2) [ inl q ↦ rw q | inr q ↦ rw q ]
 
-pub received_own : (v : View) (es : List Entry) → (receive v es).from v.own ≡ some (frame_of v)
+pub received_own : (v : View) (es : List Entry) → (receive v es).from v.own ≡ Some (frame_of v)
 unfolding receive
 received_own v es = rw (eq-eqb v.own v.own refl)
 
@@ -69,12 +69,12 @@ received_other v es x h e = rw (ne_eqb x v.own h, e, and-false (mem x v.rotor.he
 
 -- and of one that is silent
 pub received_silent : (v : View) (es : List Entry) (x : ℕ) → x ≢ v.own → In x v.rotor.heard → (¬ In x (senders es))
-    → (receive v es).from x ≡ some (stand_in v)
+    → (receive v es).from x ≡ Some (stand_in v)
 unfolding receive
 received_silent v es x h i out = rw (ne_eqb x v.own h, in_mem i, under_nothing x es out)
 
 -- one that is not heard is not oneself, and neither has an entry nor is silent
-pub unheard_received : (v : View) (es : List Entry) → Sound v → (x : ℕ) → (¬ In x (receive v es).heard) → (receive v es).from x ≡ none
+pub unheard_received : (v : View) (es : List Entry) → Sound v → (x : ℕ) → (¬ In x (receive v es).heard) → (receive v es).from x ≡ None
 unfolding receive
 unheard_received v es h x out =
     let other : x ≢ v.own = λ e. out ((heard_in_lem v es).1 (inr (Memᴰ.cast e h.hears_itself))) in
@@ -142,7 +142,7 @@ module _ (v : View) (h : Sound v) (u : undecided v ≡ true) where
   unfolding stand_in
   stand_in_writable = saying_writable v (silent_bit v) h silent_fits
 
-  pub own_frame_reads : content (frame_bytes (frame_of v)) v.round ≡ some (frame_of v)
+  pub own_frame_reads : content (frame_bytes (frame_of v)) v.round ≡ Some (frame_of v)
   unfolding frame_of
   own_frame_reads = reads_written (frame_of v) frame_writable
 
@@ -155,50 +155,50 @@ module _ (v : View) (h : Sound v) (u : undecided v ≡ true) where
   unfolding stand_in
   stand_in_bit = saying_bit v (silent_bit v) silent_fits
 
-  pub frame_says : (k b : ℕ) → says k b (some (frame_of v)) ≡ (eqb (kind_of v.round) k && eqb v.bit.said b)
+  pub frame_says : (k b : ℕ) → says k b (Some (frame_of v)) ≡ (eqb (kind_of v.round) k && eqb v.bit.said b)
   unfolding frame_of
   frame_says k b = rw (saying_kind v v.bit.said, frame_bit)
 
-  pub stand_in_says : (k b : ℕ) → says k b (some (stand_in v)) ≡ (eqb (kind_of v.round) k && eqb (silent_bit v) b)
+  pub stand_in_says : (k b : ℕ) → says k b (Some (stand_in v)) ≡ (eqb (kind_of v.round) k && eqb (silent_bit v) b)
   unfolding stand_in
   stand_in_says k b = rw (saying_kind v (silent_bit v), stand_in_bit)
 
-pub frame_list : (v : View) → list_in (some (frame_of v)) ≡ cond (ltb 0 (max_count (kind_of v.round))) v.rotor.echoes []
+pub frame_list : (v : View) → list_in (Some (frame_of v)) ≡ cond (ltb 0 (max_count (kind_of v.round))) v.rotor.echoes []
 unfolding frame_of
 frame_list v = refl
 
 -- one that is silent has one's own list
-pub stand_in_list : (v : View) → list_in (some (stand_in v)) ≡ list_in (some (frame_of v))
+pub stand_in_list : (v : View) → list_in (Some (stand_in v)) ≡ list_in (Some (frame_of v))
 unfolding frame_of stand_in
 stand_in_list v = refl
 
 -- ---- what is received is allowed
 
-read_allowed : (t : ℕ) (u : Under) (c : Content) → read_in t u ≡ some c → writable c ≡ true
+pub read_allowed : (t : ℕ) (u : Under) (c : Content) → read_in t u ≡ Some c → writable c ≡ true
 read_allowed t nothing c e = let z : ◌≡◌ {A = ℕ} 0 1 = cc in absurd (omega arith)
 read_allowed t (one b) c e = read_writable b t c e
 read_allowed t several c e = let z : ◌≡◌ {A = ℕ} 0 1 = cc in absurd (omega arith)
 
 -- what holds of the own frame, of what stands in for one that is silent and of each frame that is read holds of what is received
 received_any : (P : Content → Type 0) (v : View) (es : List Entry) (x : ℕ) → P (frame_of v) → P (stand_in v)
-    → ((c : Content) → read_in v.round (under x es) ≡ some c → P c) → (c : Content) → (receive v es).from x ≡ some c → P c
+    → ((c : Content) → read_in v.round (under x es) ≡ Some c → P c) → (c : Content) → (receive v es).from x ≡ Some c → P c
 unfolding receive
 received_any P v es x own silence read c = pick (eqb x v.own) (silent v es x)
   where
-    pick : (a b : Bool) → cond a (some (frame_of v)) (cond b (some (stand_in v)) (read_in v.round (under x es))) ≡ some c → P c
+    pick : (a b : Bool) → cond a (Some (frame_of v)) (cond b (Some (stand_in v)) (read_in v.round (under x es))) ≡ Some c → P c
     pick true b e = let same : frame_of v ≡ c = cc in rw same at own
     pick false true e = let same : stand_in v ≡ c = cc in rw same at silence
     pick false false e = read c e
 
-pub received_allowed : (v : View) (es : List Entry) → Sound v → undecided v ≡ true → (x : ℕ) (c : Content) → (receive v es).from x ≡ some c
+pub received_allowed : (v : View) (es : List Entry) → Sound v → undecided v ≡ true → (x : ℕ) (c : Content) → (receive v es).from x ≡ Some c
     → writable c ≡ true
 received_allowed v es h u x =
     received_any (λ c. writable c ≡ true) v es x (frame_writable v h u) (stand_in_writable v h u)
     (read_allowed v.round (under x es))
 
-list_positive : (o : Option Content) → ((c : Content) → o ≡ some c → writable c ≡ true) → (y : ℕ) → In y (list_in o) → 0 < y
-list_positive none allowed y i = absurd (Memᴰ.not-nil i)
-list_positive (some c) allowed y i = (rising_gives c.numbers (writable_gives c (allowed c refl)).rise).1 y i
+list_positive : (o : Option Content) → ((c : Content) → o ≡ Some c → writable c ≡ true) → (y : ℕ) → In y (list_in o) → 0 < y
+list_positive None allowed y i = absurd (Memᴰ.not-nil i)
+list_positive (Some c) allowed y i = (rising_gives c.numbers (writable_gives c (allowed c refl)).rise).1 y i
 
 -- the numbers of a frame that was read, or of the own frame of a sound state, are above 0
 pub received_positive : (v : View) (es : List Entry) → Sound v → undecided v ≡ true → (x y : ℕ) → In y (list_in ((receive v es).from x)) → 0 < y
@@ -206,20 +206,20 @@ received_positive v es h u x = list_positive ((receive v es).from x) (received_a
 
 -- ---- the bit of what is received tells what it says, since its kind is the round's
 
-read_of_kind : (t : ℕ) (u : Under) (c : Content) → read_in t u ≡ some c → kind_said c.said ≡ kind_of t
+read_of_kind : (t : ℕ) (u : Under) (c : Content) → read_in t u ≡ Some c → kind_said c.said ≡ kind_of t
 read_of_kind t nothing c e = let z : ◌≡◌ {A = ℕ} 0 1 = cc in absurd (omega arith)
 read_of_kind t (one b) c e = read_kind b t c e
 read_of_kind t several c e = let z : ◌≡◌ {A = ℕ} 0 1 = cc in absurd (omega arith)
 
-received_kind : (v : View) (es : List Entry) (x : ℕ) (c : Content) → (receive v es).from x ≡ some c → kind_said c.said ≡ kind_of v.round
+received_kind : (v : View) (es : List Entry) (x : ℕ) (c : Content) → (receive v es).from x ≡ Some c → kind_said c.said ≡ kind_of v.round
 unfolding frame_of stand_in
 received_kind v es x =
     received_any (λ c. kind_said c.said ≡ kind_of v.round) v es x (saying_kind v v.bit.said) (saying_kind v (silent_bit v))
     (read_of_kind v.round (under x es))
 
-says_by_bit : (k b : ℕ) (o : Option Content) → ((c : Content) → o ≡ some c → kind_said c.said ≡ k) → b < 3 → eqb (bit_in o) b ≡ says k b o
-says_by_bit k b none kind l = ne_eqb 3 b (λ e. omega arith)
-says_by_bit k b (some c) kind l = rw (eq-eqb _ _ (kind c refl))
+says_by_bit : (k b : ℕ) (o : Option Content) → ((c : Content) → o ≡ Some c → kind_said c.said ≡ k) → b < 3 → eqb (bit_in o) b ≡ says k b o
+says_by_bit k b None kind l = ne_eqb 3 b (λ e. omega arith)
+says_by_bit k b (Some c) kind l = rw (eq-eqb _ _ (kind c refl))
 
 pub received_says : (v : View) (es : List Entry) (x b : ℕ) → b < 3
     → eqb (bit_in ((receive v es).from x)) b ≡ says (kind_of v.round) b ((receive v es).from x)
@@ -228,10 +228,10 @@ received_says v es x b = says_by_bit (kind_of v.round) b ((receive v es).from x)
 bit_or_none : (b : ℕ) → b ≤ 2 → b ≡ cond (leb b 1) b 2
 bit_or_none b l = elim (true_or_false (leb b 1)) [ inl t ↦ rw t | inr t ↦ rw t (omega (arith, leb-false b 1 t)) ]
 
-opinion_by_bit : (o : Option Content) → ((c : Content) → o ≡ some c → (kind_said c.said ≡ 5) × (writable c ≡ true))
+opinion_by_bit : (o : Option Content) → ((c : Content) → o ≡ Some c → (kind_said c.said ≡ 5) × (writable c ≡ true))
     → opinion_in o ≡ cond (leb (bit_in o) 1) (bit_in o) 2
-opinion_by_bit none is = refl
-opinion_by_bit (some c) is = rw (eq-eqb _ _ (is c refl).0) (bit_or_none (bit_said c.said) (said_bound c.said (writable_gives c (is c refl).1).said))
+opinion_by_bit None is = refl
+opinion_by_bit (Some c) is = rw (eq-eqb _ _ (is c refl).0) (bit_or_none (bit_said c.said) (said_bound c.said (writable_gives c (is c refl).1).said))
 
 pub received_opinion : (v : View) (es : List Entry) → Sound v → undecided v ≡ true → kind_of v.round ≡ 5 → (x : ℕ)
     → opinion_in ((receive v es).from x) ≡ cond (leb (bit_in ((receive v es).from x)) 1) (bit_in ((receive v es).from x)) 2

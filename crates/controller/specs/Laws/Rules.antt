@@ -4,7 +4,7 @@ use Rattle.std.proofs.Math.Bool.{not, and-false, and-eq-true_iff}
 use Rattle.std.proofs.Common.{true≢false, sym, ap, ◌∙◌, arith, leb-true, le-leb, ne_eqb}
 use mathlib.Core.List.Memᴰ
 use Rattle.std.proofs.Math.Logic.{inl, inr}
-use Rattle.std.proofs.Math.Option.{some}
+use Rattle.std.specs.Prelude.{Some}
 use Rattle.std.proofs.Math.Decide.{ℕ_discrete}
 use Rattle.std.proofs.Math.Dec.{eqb}
 use Rattle.std.proofs.Math.ListN.{length}
@@ -321,7 +321,7 @@ received_already_heard v es up =
     λ i. record {
       heard = heard i;
       from = λ x.
-          cond (eqb x v.own) (some (frame_of v)) (cond (silent_already_heard v es x i) (some (stand_in v)) (read_in v.round (under x es)));
+          cond (eqb x v.own) (Some (frame_of v)) (cond (silent_already_heard v es x i) (Some (stand_in v)) (read_in v.round (under x es)));
     }
 
 pub next_already_heard : (v : View) (es : List Entry) → Rising v.rotor.heard → next (with_heard v es) es ≡ next v es

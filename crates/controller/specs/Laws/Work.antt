@@ -1,4 +1,5 @@
 -- Laws that tie the words for the code's work to the rules' words.
+pub mod Alone
 pub mod Calls
 pub mod First
 pub mod Grow
@@ -6,6 +7,7 @@ pub mod Heads
 pub mod Hears
 pub mod Lists
 pub mod Moved
+pub mod OpenList
 pub mod Opened
 pub mod Own
 pub mod Ready

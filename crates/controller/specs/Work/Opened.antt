@@ -1,135 +1,95 @@
 -- Words for opened.rt: the received lists, where they lie. They are no part of the rules: the laws tie them to the rules' words.
---     total f n                  the sum of f 0 to f (n - 1)
---     end_mark                   above every number: what stands behind a list's last one
---     max_lists                  the own list, and one for each number heard
---     SpanOf b l o n             the list l has n numbers that lie in the tray b from o on
---     list_from w b j o n        open list j of n numbers: the own one, the first places of w, for j = 0, else the one that lies in the tray b from o on
---     open_list w b s n j        the same, where s has where each list starts, and n how many numbers it has
---     Lies w b j o n             such a list can be read
---     Opens w b s n c m          what is known of the m open lists, each sent by as many controllers as c says: they rise, and can be read
---     weighed w b s n c m x      how many sent one of them that has x
+--     SpanOf b l o n             the list l has n numbers, of 32 bits, that lie in the tray b from o on
 --     list_under t l b k         the list of the frame that the note k is of, read in round t; the own list l where it is of none
---     noted_list f e b t j       the list received with note j of t; f are the state's fields and e the places of its echoes
+--     noted_list s b t j         the list received by the state s with note j of t
 --     having l h x               how many of the lists l 0 to l (h - 1) have x
---     Recalls t w b s n m k j    open list j, one of m, is the list of the note k
---     Placeable t w b s n m k j  there is room for one list more behind the m open ones, of which list j is that of the note k
---     Places w b l m .. r        the list l is the open one at place r, or it is opened there, behind the m open ones; PlacesIn, the same of lent lists and
---                                the list received with a note
---     Openable f e b t s n c     what opening finds: a state that is ready for the tray b, and room
---     OpensAll f e b t s n c m   the m open lists count each number as the lists received with the notes do
-use Rattle.std.specs.Prelude.{ℕ, zero, suc, ◌+◌, ◌*◌, ◌<◌, ◌≤◌, cond, List, ◌≡◌, ◌⊎◌, eqb, length, get_or, take, set}
+--     nth_open o j, weighed_in o x      these words of the lists in the code's record of them
+--     OpensOwn e b n o           the own list alone is open, n numbers of e; nobody is counted for it
+--     received_list t o k        the list of the frame that the note k is of, or the own one, which is list 0
+--     Recalls t o k j            open list j is the list of the note k
+--     Finds l o r                r is the place where l is open; where it is not sure to be, as an error, it is l itself, which one sent
+--     sent_in o                  how many sent one of the open lists
+--     Placeable t o k j          there is room for one list more behind the open ones, of which list j is that of the note k, and for one more that sent it
+--     Adds l o r p               the lists p are those of o with one more that sent l, which is list r of them
+--     OpensAll s b t o           the open lists count each number as the lists received with the notes do
+use Rattle.std.specs.Prelude.{ℕ, ◌+◌, ◌<◌, ◌≤◌, cond, List, ◌≡◌, eqb, get_or, take, Result, Ok, Err}
 use Rattle.wire.specs.Limits.{max_numbers}
 use Rattle.wire.specs.Notes.{no_frame}
-use Rattle.wire.specs.Words.{words_at}
-use Rattle.controller.specs.Lists.{In, mem, Rising}
+use Rattle.wire.specs.Words.{words_at, Below}
+use Rattle.controller.specs.Lists.{mem}
 use Rattle.controller.specs.Received.{read_in, list_in}
-use Rattle.controller.specs.Fields.{state_of}
-use Rattle.controller.specs.Work.Received.{noted, Ready, sent_count}
-use Rattle.controller.specs.declared.state.Fields.{Fields}
-
-abbrev pub total : (ℕ → ℕ) → ℕ → ℕ
-total f zero = 0
-total f (suc n) = total f n + f n
-
-abbrev pub end_mark : ℕ
-end_mark = 4294967296
-
--- the own list, and one for each number heard
-abbrev pub max_lists : ℕ
-max_lists = 65
-
--- the n numbers from a place of the tray on lie in it
-abbrev pub NumbersIn : List ℕ → ℕ → ℕ → Type 0
-NumbersIn b start n = (i : ℕ) → i < n → start + 4 * i + 4 ≤ length b
-
--- an offset is two bytes long, and a frame's header follows: no sum of places wraps
-abbrev pub start_limit : ℕ
-start_limit = 65552
+use Rattle.controller.specs.Work.Received.{noted, sent_count}
+use Rattle.controller.specs.Work.OpenList.{total, end_mark, max_lists, NumbersIn, start_limit, open_list, weighed, starts_of, counts_of, sent_of, no_list}
+use Rattle.controller.specs.declared.open_list.OpenList.{OpenList}
+use Rattle.controller.specs.declared.open_list.OpenLists.{OpenLists}
+use Rattle.controller.specs.declared.state.State.{State}
 
 pub record SpanOf (b l : List ℕ) (start count : ℕ) : Type 0 where
   pub is : words_at b start count ≡ l
   pub low : start < start_limit
   pub inside : NumbersIn b start count
-
-abbrev pub list_from : List ℕ → List ℕ → ℕ → ℕ → ℕ → List ℕ
-list_from own b j start count = cond (eqb j 0) (take count own) (words_at b start count)
-
-abbrev pub open_list : List ℕ → List ℕ → List ℕ → List ℕ → ℕ → List ℕ
-open_list own b starts counts j = list_from own b j (get_or starts j 0) (get_or counts j 0)
-
-pub record Lies (own b : List ℕ) (j start count : ℕ) : Type 0 where
-  pub short : count ≤ max_numbers
-  pub low : start < start_limit
-  pub mine : j ≡ 0 → count ≤ length own
-  pub inside : 0 < j → NumbersIn b start count
-
-pub record Opens (own b s n w : List ℕ) (m : ℕ) : Type 0 where
-  pub some : 0 < m
-  pub few : m ≤ max_lists
-  pub starts : length s ≡ max_lists
-  pub counts : length n ≡ max_lists
-  pub weights : length w ≡ max_lists
-  pub lies : (j : ℕ) → j < m → Lies own b j (get_or s j 0) (get_or n j 0)
-  pub rises : (j : ℕ) → j < m → Rising (open_list own b s n j)
-  pub fit : (j : ℕ) → j < m → (y : ℕ) → In y (open_list own b s n j) → (0 < y) × (y < end_mark)
-  pub light : total (λ (j : ℕ). get_or w j 0) m ≤ max_numbers
-
-abbrev pub weighed : List ℕ → List ℕ → List ℕ → List ℕ → List ℕ → ℕ → ℕ → ℕ
-weighed own b starts counts weights m x = total (λ (j : ℕ). cond (mem x (open_list own b starts counts j)) (get_or weights j 0) 0) m
+  pub words : Below end_mark l
 
 abbrev pub list_under : ℕ → List ℕ → List ℕ → ℕ → List ℕ
 list_under round own b k = cond (eqb k no_frame) own (list_in (read_in round (noted b k)))
 
-abbrev pub noted_list : Fields → List ℕ → List ℕ → List ℕ → ℕ → List ℕ
-noted_list f e b t j = list_under f.round (take (sent_count f) e) b (get_or t j 0)
+abbrev pub noted_list : State → List ℕ → List ℕ → ℕ → List ℕ
+noted_list s b t j = list_under s.round (take (sent_count s) s.echoes.at) b (get_or t j 0)
 
 abbrev pub having : (ℕ → List ℕ) → ℕ → ℕ → ℕ
 having l h x = total (λ (j : ℕ). cond (mem x (l j)) 1 0) h
 
-pub record Recalls (round : ℕ) (own b s n : List ℕ) (m last slot : ℕ) : Type 0 where
-  pub one : slot < m
-  pub same : open_list own b s n slot ≡ list_under round (open_list own b s n 0) b last
+-- ---- the same, of the code's record of the open lists
 
-pub record Placeable (round : ℕ) (own b s n : List ℕ) (m last slot : ℕ) : Type 0 where
-  pub free : m < max_lists
-  pub starts : length s ≡ max_lists
-  pub counts : length n ≡ max_lists
-  pub short : get_or n 0 0 ≤ max_numbers
-  pub whole : max_numbers ≤ length own
-  pub recalls : Recalls round own b s n m last slot
+abbrev pub nth_open : OpenLists → ℕ → List ℕ
+nth_open o j = open_list o.own.now o.tray.now (starts_of o.lists) (counts_of o.lists) j
 
-pub record Repeats (own b l : List ℕ) (m : ℕ) (s n t k : List ℕ) (r : ℕ) : Type 0 where
-  pub one : r < m
-  pub same : l ≡ open_list own b s n r
-  pub starts : t ≡ s
-  pub counts : k ≡ n
+abbrev pub weighed_in : OpenLists → ℕ → ℕ
+weighed_in o x = weighed o.own.now o.tray.now (starts_of o.lists) (counts_of o.lists) (sent_of o.lists) o.len x
 
-pub record Appends (b l : List ℕ) (m : ℕ) (s n t k : List ℕ) (r : ℕ) : Type 0 where
-  pub start : ℕ
-  pub count : ℕ
-  pub span : SpanOf b l start count
-  pub starts : t ≡ set s m start
-  pub counts : k ≡ set n m count
-  pub last : r ≡ m
+-- the own list alone is open, of n numbers
+pub record OpensOwn (e b : List ℕ) (n : ℕ) (o : OpenLists) : Type 0 where
+  pub own : o.own.now ≡ e
+  pub tray : o.tray.now ≡ b
+  pub len : o.len ≡ 1
+  pub first : get_or o.lists 0 no_list ≡ record no_list { count = n }
 
-abbrev pub Places : List ℕ → List ℕ → List ℕ → ℕ → List ℕ → List ℕ → List ℕ → List ℕ → ℕ → Type 0
-Places own b l m s n t k r = Repeats own b l m s n t k r ⊎ Appends b l m s n t k r
+-- the list received with a note, where list 0 is the own one
+abbrev pub received_list : ℕ → OpenLists → ℕ → List ℕ
+received_list round o note = list_under round (nth_open o 0) o.tray.now note
 
-abbrev pub PlacesIn : ℕ → List ℕ → List ℕ → ℕ → ℕ → List ℕ → List ℕ → List ℕ → List ℕ → ℕ → Type 0
-PlacesIn round own b note m s n t k r =
-    let list = list_under round (open_list own b s n 0) b note in
-    Places own b list m s n t k r
+-- list slot is that of the note last
+pub record Recalls (round : ℕ) (o : OpenLists) (last slot : ℕ) : Type 0 where
+  pub one : slot < o.len
+  pub same : nth_open o slot ≡ received_list round o last
 
-pub record Openable (f : Fields) (e b t s n w : List ℕ) : Type 0 where
-  pub heard : List ℕ
-  pub candidates : List ℕ
-  pub ready : Ready (state_of f heard candidates e) b t
-  pub starts : length s ≡ max_lists
-  pub counts : length n ≡ max_lists
-  pub weights : length w ≡ max_lists
-  pub first : get_or s 0 0 ≡ 0
-  pub fresh : (j : ℕ) → j < max_lists → get_or w j 0 ≡ 0
+-- list l is open at place r, or it lies where a says
+abbrev pub Finds : List ℕ → OpenLists → Result ℕ OpenList → Type 0
+Finds l o (Ok r) = (r < o.len) × (l ≡ nth_open o r)
+Finds l o (Err a) = SpanOf o.tray.now l a.start a.count × (a.sent ≡ 1)
 
-pub record OpensAll (f : Fields) (e b t s n w : List ℕ) (m : ℕ) : Type 0 where
-  pub opens : Opens e b s n w m
-  pub counted : (x : ℕ) → weighed e b s n w m x ≡ having (noted_list f e b t) f.heard x
+-- how many sent one of the lists
+abbrev pub sent_in : OpenLists → ℕ
+sent_in o = total (λ (j : ℕ). get_or (sent_of o.lists) j 0) o.len
+
+pub record Placeable (round : ℕ) (o : OpenLists) (last slot : ℕ) : Type 0 where
+  pub free : o.len < max_lists
+  pub light : sent_in o < max_numbers
+  pub recalls : Recalls round o last slot
+
+-- the lists p are those of o with one more that sent l, which is list r of them
+pub record Adds (l : List ℕ) (o : OpenLists) (r : ℕ) (p : OpenLists) : Type 0 where
+  pub own : p.own.now ≡ o.own.now
+  pub tray : p.tray.now ≡ o.tray.now
+  pub one : r < p.len
+  pub list : nth_open p r ≡ l
+  pub kept : (j : ℕ) → j < o.len → nth_open p j ≡ nth_open o j
+  pub more : o.len ≤ p.len
+  pub few : p.len ≤ o.len + 1
+  pub sent : sent_in p ≡ sent_in o + 1
+  pub counts : (x : ℕ) → weighed_in p x ≡ weighed_in o x + cond (mem x l) 1 0
+
+pub record OpensAll (s : State) (b t : List ℕ) (o : OpenLists) : Type 0 where
+  pub own : o.own.now ≡ s.echoes.at
+  pub tray : o.tray.now ≡ b
+  pub counted : (x : ℕ) → weighed_in o x ≡ having (noted_list s b t) s.heard.len x

@@ -5,19 +5,18 @@
 --     senders_from b i       the senders of the tray b from entry i on; note_on b x i, the note on x that these entries give
 --     HearsFrom o b l n f i  from l, the list n are those heard with the senders from entry i on, none of which is 0 or the own number o, and f has a note on
 --                            each of them
---     Hears o b l r at f     r is at most 64 exactly if the senders of the tray b fit, o being the own number, and at most 64 are then heard; if so, the
---                            list of r numbers with the places at is the stored form of those, and f has a note on each of them
+--     Hears o b l r n f      r says whether the senders of the tray b fit, o being the own number, and at most 64 are then heard; if so, the list n is
+--                            the stored form of those, and f has a note on each of them
+--     HearsIn o b l r n      the same of an answer that has the tray and the notes, or is none
 --     received_by s b        what the state s has received with the tray b
 --     Ready s b f            what a step finds: a state s that has not decided and is sound, but for its record, a tray b whose senders are all heard and
 --                            none is oneself, and in f a note on each number heard; the own number's, like that of one that is silent, is none
---     WhereReady f h b t P   P holds of each state with the fields f, where h are those heard, and of the tray b, if it is ready
---     AnyReady f b t P       the same, whoever is heard
+--     bit_had o              the bit that an answer has; 3, which no frame says, for none
 --     bit_under t d b k      the bit of the frame that the note k is of, read in round t; d where it is of none, 3 where it is of a void frame or of several
 --     Votes t d b k r        r is the header of a frame of round t that says that bit, where it is 0 or 1, and of neither such frame where it is not
 --     CountsBits k r n       n has how many of those heard sent each bit in a frame of kind k, where r was received
---     CountsFew h n          neither count is above h
---     sent_count f           how many numbers the own frame lists
-use Rattle.std.specs.Prelude.{ℕ, ◌-◌, ◌<◌, ◌≤◌, Bool, true, cond, not, ◌&&◌, List, ◌≢◌, ◌≡◌, leb, ltb, eqb, length, get_or}
+--     sent_count s           how many numbers the frame of the state s lists
+use Rattle.std.specs.Prelude.{ℕ, ◌-◌, ◌<◌, ◌≤◌, Bool, true, false, cond, not, ◌&&◌, List, [], ◌≢◌, ◌≡◌, leb, ltb, eqb, length, get_or, Option, Some, None}
 use Rattle.wire.specs.Limits.{max_numbers}
 use Rattle.wire.specs.Numbers.{stored, listed}
 use Rattle.wire.specs.Found.{Under, meaning, found}
@@ -26,13 +25,12 @@ use Rattle.wire.specs.Tray.{well_formed, entry_count, entries_from, entries}
 use Rattle.wire.specs.Frame.{kind_of, max_count, bit_in}
 use Rattle.wire.specs.Heads.{head_of}
 use Rattle.wire.specs.declared.frame.Numbers.{Numbers}
-use Rattle.controller.specs.Fields.{state_of}
 use Rattle.controller.specs.Lists.{In, mem, insert_all}
 use Rattle.controller.specs.State.{view, undecided, sound_list, sound_rules}
 use Rattle.controller.specs.Received.{Received, senders, read_in, receive, says, count}
-use Rattle.controller.specs.declared.state.Fields.{Fields}
 use Rattle.controller.specs.declared.state.State.{State}
-use Rattle.controller.specs.declared.received.Counts.{Counts}
+use Rattle.controller.specs.declared.counts.Counts.{Counts}
+use Rattle.controller.specs.declared.received.NotedTray.{NotedTray}
 
 abbrev pub noted : List ℕ → ℕ → Under
 noted b k = meaning b (found_by k)
@@ -58,10 +56,14 @@ pub record HearsFrom (own : ℕ) (b l : List ℕ) (list : Numbers) (f : List ℕ
   pub places : length f ≡ max_numbers
   pub notes : (j : ℕ) → j < length (listed list) → get_or f j 0 ≡ note_on b (get_or (listed list) j 0) i
 
-pub record Hears (own : ℕ) (b l : List ℕ) (r : ℕ) (at f : List ℕ) : Type 0 where
-  pub fits : leb r max_numbers ≡ (others_only own (senders (entries b)) && leb (length (heard_after b l)) max_numbers)
-  pub list : r ≤ max_numbers → ◌≡◌ {A = Numbers} (record { len = r; at = at }) (stored (heard_after b l))
-  pub notes : r ≤ max_numbers → (j : ℕ) → j < length (heard_after b l) → found_by (get_or f j 0) ≡ found b (get_or (heard_after b l) j 0)
+pub record Hears (own : ℕ) (b l : List ℕ) (r : Bool) (n : Numbers) (f : List ℕ) : Type 0 where
+  pub fits : r ≡ (others_only own (senders (entries b)) && leb (length (heard_after b l)) max_numbers)
+  pub list : r ≡ true → n ≡ stored (heard_after b l)
+  pub notes : r ≡ true → (j : ℕ) → j < length (heard_after b l) → found_by (get_or f j 0) ≡ found b (get_or (heard_after b l) j 0)
+
+abbrev pub HearsIn : ℕ → List ℕ → List ℕ → Option NotedTray → Numbers → Type 0
+HearsIn own b l (Some t) list = (t.tray.now ≡ b) × Hears own b l true list t.notes
+HearsIn own b l None list = Hears own b l false list []
 
 abbrev pub received_by : State → List ℕ → Received
 received_by s b = receive (view s) (entries b)
@@ -75,6 +77,10 @@ pub record Ready (s : State) (b f : List ℕ) : Type 0 where
   pub heard : (received_by s b).heard ≡ listed s.heard
   pub notes : (j : ℕ) → j < length (listed s.heard) → found_by (get_or f j 0) ≡ found b (get_or (listed s.heard) j 0)
 
+abbrev pub bit_had : Option ℕ → ℕ
+bit_had None = 3
+bit_had (Some b) = b
+
 abbrev pub bit_under : ℕ → ℕ → List ℕ → ℕ → ℕ
 bit_under round absent b k = cond (eqb k no_frame) absent (bit_in (read_in round (noted b k)))
 
@@ -85,15 +91,6 @@ pub record CountsBits (k : ℕ) (r : Received) (n : Counts) : Type 0 where
   pub zeros : n.zeros ≡ count (says k 0) r
   pub ones : n.ones ≡ count (says k 1) r
 
-abbrev pub CountsFew : ℕ → Counts → Type 0
-CountsFew h n = (n.zeros ≤ h) × (n.ones ≤ h)
-
 -- the echoes, in a roster and a turn
-abbrev pub sent_count : Fields → ℕ
-sent_count f = cond (ltb 0 (max_count (kind_of f.round))) f.echoes 0
-
-abbrev pub WhereReady : Fields → List ℕ → List ℕ → List ℕ → (State → List ℕ → Type 0) → Type 0
-WhereReady f h tray notes P = (c e : List ℕ) → Ready (state_of f h c e) tray notes → P (state_of f h c e) tray
-
-abbrev pub AnyReady : Fields → List ℕ → List ℕ → (State → List ℕ → Type 0) → Type 0
-AnyReady f tray notes P = (h c e : List ℕ) → Ready (state_of f h c e) tray notes → P (state_of f h c e) tray
+abbrev pub sent_count : State → ℕ
+sent_count s = cond (ltb 0 (max_count (kind_of s.round))) s.echoes.len 0

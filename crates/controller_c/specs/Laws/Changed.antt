@@ -56,7 +56,7 @@ module _ (s : State) (b : List ℕ) (f : Fits s b) where
       let list = (sound_list_gives s.heard grown.fewer).list in
       let stays = moved_same (listed s.heard) s.since s.round list.rises (omega (arith, list.short, since_places s f.state)) in
       let moved : moved_to (listed s.heard) (listed s.heard) s.round s.since ≡ made.since =
-      rw members at (moved_recorded s es f.state f.heard) in
+      rw members at (moved_recorded s es f.state) in
       (sym same, sym stays ∙ moved)
 
   rotation_kept : 3 < kind_of made.round → (s.candidates ≡ made.candidates) × (s.echoes ≡ made.echoes)

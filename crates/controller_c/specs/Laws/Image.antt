@@ -48,7 +48,7 @@ rules_sized s h =
 pub list_bytes_length : (n : Numbers) → Sized n → length (list_bytes n) ≡ list_width
 list_bytes_length n z = let p = z.places in omega (arith, numbers_bytes_length n.at)
 
-zeros_from_length : (at : ℕ) → length (zeros_from at) ≡ image_bytes - at
+pub zeros_from_length : (at : ℕ) → length (zeros_from at) ≡ image_bytes - at
 unfolding zeros_from
 zeros_from_length at = length-replicate (image_bytes - at) 0
 

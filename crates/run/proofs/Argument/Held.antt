@@ -7,7 +7,7 @@ use Rattle.std.specs.Prelude.{ℕ, ◌≤◌, Bool, true, false, not, cond, ◌&
 use Rattle.std.proofs.Common.{true≢false, inl, inr, ◌∙◌, subst, arith, eqb-true, eq-eqb, leb-true, le-leb}
 use Rattle.std.proofs.Math.Bool.{and-eq-true_iff, or-true}
 use mathlib.Core.List.Memᴰ
-use Rattle.std.proofs.Math.Option.{none}
+use Rattle.std.specs.Prelude.{None}
 use Rattle.std.proofs.Math.Path.{sym, ap}
 use Rattle.std.proofs.Math.Decide.{dec_le}
 use Rattle.std.proofs.lemmas.Bool.{not-true}
@@ -55,7 +55,7 @@ unfoldable pub state_in : ℕ → Controller → View
 state_in t c = lookup (held_in t) view nobody (states c)
 
 abbrev pub nothing : Received
-nothing = record { heard = []; from = λ x. none }
+nothing = record { heard = []; from = λ x. None }
 
 unfoldable pub received_of : ℕ → Controller → Received
 received_of t c = lookup (accepts_round t) received_with nothing c.trays

@@ -6,7 +6,7 @@
 use Rattle.std.specs.Prelude.{ℕ, zero, suc, ◌+◌, ◌-◌, ◌*◌, ◌≤◌, true, false, cond, List, [], ◌⊎◌, ◌≢◌, ◌≡◌, refl, length}
 use Rattle.std.proofs.Common.{true≢false, inl, inr, sym, ap, ap₂, ◌∙◌, subst, arith, eqb-true, eq-eqb}
 use mathlib.Core.List.Memᴰ
-use Rattle.std.proofs.Math.Option.{some}
+use Rattle.std.specs.Prelude.{Some}
 use Rattle.std.proofs.Math.Decide.{ℕ_discrete}
 use Rattle.controller.specs.Bytes.{Entry, entries, content, frame_bytes, one, under, under_one}
 use Rattle.controller.specs.Lists.{In}
@@ -265,7 +265,7 @@ module _ (r : Run) where
         others = λ x j. elim ((heard_in_lem v es).0 j) [ inl sent ↦ inr (d.others x sent).0 | inr before ↦ inl before ];
         present = heard_with p t b d w before;
         frames = λ q j u. elim (ℕ_discrete q p) [
-          | yes e ↦ ap (receive v es).from (e ∙ sym me.own) ∙ received_own v es ∙ ap (λ s. some (frame_of (state s t))) (sym e)
+          | yes e ↦ ap (receive v es).from (e ∙ sym me.own) ∙ received_own v es ∙ ap (λ s. Some (frame_of (state s t))) (sym e)
           | no ne ↦
               let x : AtWork steps q t = record { member = j; timely = w.timely; active = u } in
               let you = own_at q t x in

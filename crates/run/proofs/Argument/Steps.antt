@@ -7,7 +7,7 @@
 --                            and p's own, without its opinion, for each that has gone quiet
 --     StepRules S            how they follow from each other, by the rules and the line's guarantee
 use Rattle.std.specs.Prelude.{ℕ, suc, ◌+◌, ◌*◌, ◌≤◌, ◌<◌, true, false, List, ◌++◌, ◌⊎◌, ◌≢◌, ◌≡◌, length}
-use Rattle.std.proofs.Math.Option.{some}
+use Rattle.std.specs.Prelude.{Some}
 use Rattle.controller.specs.Lists.{In, Inside, NoRepeats, Rising}
 use Rattle.controller.specs.State.{View, start_view, undecided}
 use Rattle.controller.specs.Received.{Received, frame_of, stand_in}
@@ -40,8 +40,8 @@ module _ (S : Steps) where
     pub rises : Rising r.heard
     pub others : (x : ℕ) → In x r.heard → In x (state p t).rotor.heard ⊎ In x all
     pub present : Inside correct r.heard
-    pub frames : (q : ℕ) → In q correct → Active q t → r.from q ≡ some (frame_of (state q t))
-    pub quiet : (q : ℕ) → In q correct → undecided (state q t) ≡ false → r.from q ≡ some (stand_in (state p t))
+    pub frames : (q : ℕ) → In q correct → Active q t → r.from q ≡ Some (frame_of (state q t))
+    pub quiet : (q : ℕ) → In q correct → undecided (state q t) ≡ false → r.from q ≡ Some (stand_in (state p t))
 
   -- a round whose tray keeps the guarantee
   pub record Timely (t : ℕ) : Type 0 where

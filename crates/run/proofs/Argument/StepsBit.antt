@@ -10,7 +10,7 @@ use Rattle.std.proofs.Math.Bool.{true, false, not, cond, and-eq-true_iff}
 use Rattle.std.proofs.Common.{true≢false, inl, inr, sym, ap, ◌∙◌, arith, ℕ, zero, suc, ◌+◌, ◌≤◌, ◌<◌, zero-le, leb-true, le-leb, ltb-true, lt-ltb}
 use Rattle.std.proofs.Common.{eq-eqb, eqb-true, ne_eqb}
 use mathlib.Core.List.Memᴰ
-use Rattle.std.proofs.Math.Option.{Option, some, none}
+use Rattle.std.specs.Prelude.{Option, Some, None}
 use Rattle.std.proofs.Math.Path.{refl}
 use Rattle.std.proofs.Math.Dec.{eqb, leb}
 use Rattle.controller.specs.Bytes.{Content, kind_of, kind_said, bit_said}
@@ -35,8 +35,8 @@ use Rattle.run.proofs.Argument.StepsRotation.{rests_propose, rests_phase, works_
 use Rattle.run.proofs.Argument.StepsRotation.{heard_in_round, received_sent, received_quiet}
 
 abbrev pub bit_of : ℕ → Option Content → ℕ
-bit_of k none = 2
-bit_of k (some c) = cond (eqb (kind_said c.said) k) (bit_said c.said) 2
+bit_of k None = 2
+bit_of k (Some c) = cond (eqb (kind_said c.said) k) (bit_said c.said) 2
 
 -- ---- tests and claims
 
@@ -52,19 +52,19 @@ iff_same false false law = refl
 -- ---- any state, any entries
 
 says_bit : (k b : ℕ) (o : Option Content) → b < 2 → says k b o ≡ eqb (bit_of k o) b
-says_bit k b none h = sym (ne_eqb 2 b (λ e. absurd (omega arith)))
-says_bit k b (some c) h = pick (eqb (kind_said c.said) k)
+says_bit k b None h = sym (ne_eqb 2 b (λ e. absurd (omega arith)))
+says_bit k b (Some c) h = pick (eqb (kind_said c.said) k)
   where
     pick : (t : Bool) → (t && eqb (bit_said c.said) b) ≡ eqb (cond t (bit_said c.said) 2) b
     pick true = refl
     pick false = sym (ne_eqb 2 b (λ e. absurd (omega arith)))
 
 opinion_bit : (o : Option Content) → opinion_in o ≡ bit_of 5 o
-opinion_bit none = refl
-opinion_bit (some c) = refl
+opinion_bit None = refl
+opinion_bit (Some c) = refl
 
 -- the bit of a frame of kind k that says b
-bit_said_lem : (k b : ℕ) (c : Content) → says k b (some c) ≡ true → bit_of k (some c) ≡ b
+bit_said_lem : (k b : ℕ) (c : Content) → says k b (Some c) ≡ true → bit_of k (Some c) ≡ b
 bit_said_lem k b c said =
     let parts = (and-eq-true_iff (eqb (kind_said c.said) k) (eqb (bit_said c.said) b)).0 said in
     ap (λ t. cond t (bit_said c.said) 2) parts.0 ∙ eqb-true _ _ parts.1
@@ -72,13 +72,13 @@ bit_said_lem k b c said =
 -- a sound state that has not decided, of a round of kind k
 module _ (v : View) (k : ℕ) (h : Sound v) (u : undecided v ≡ true) (kind : kind_of v.round ≡ k) where
   -- its frame has the bit that it says
-  bit_sent : bit_of k (some (frame_of v)) ≡ v.bit.said
+  bit_sent : bit_of k (Some (frame_of v)) ≡ v.bit.said
   bit_sent =
       bit_said_lem k v.bit.said (frame_of v)
       (frame_says v h u k v.bit.said ∙ rw (eq-eqb _ _ kind, eq-eqb v.bit.said v.bit.said refl) refl)
 
   -- and so has what stands in for one that is silent, but for an opinion
-  bit_stands_in : k ≢ 5 → bit_of k (some (stand_in v)) ≡ v.bit.said
+  bit_stands_in : k ≢ 5 → bit_of k (Some (stand_in v)) ≡ v.bit.said
   bit_stands_in other =
       bit_said_lem k v.bit.said (stand_in v)
       (stand_in_says v h u k v.bit.said ∙ rw (kind, ne_eqb k 5 other, eq-eqb k k refl, eq-eqb v.bit.said v.bit.said refl) refl)

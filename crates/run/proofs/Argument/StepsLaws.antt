@@ -4,7 +4,7 @@ use Rattle.std.specs.Prelude.{ℕ, zero, suc, ◌<◌, ◌≤◌, Bool, false, c
 use Rattle.std.proofs.Math.Bool.{true}
 use mathlib.Core.List.Memᴰ
 use Rattle.std.proofs.Math.Logic.{inl, inr}
-use Rattle.std.proofs.Math.Option.{some}
+use Rattle.std.specs.Prelude.{Some}
 use Rattle.std.proofs.Common.{sym, subst, arith, length-append}
 use Rattle.std.proofs.Math.Decide.{le_ind}
 use Rattle.controller.specs.Bytes.{kind_of, max_count}
@@ -78,7 +78,7 @@ module _ (S : Steps) where
     ListsInside v = Inside v.rotor.candidates (all S) × Inside v.rotor.echoes (all S)
 
     -- a frame's list, and that of what stands in for one that is silent, which is the same
-    sent_inside : (v : View) → Inside v.rotor.echoes (all S) → Inside (list_in (some (frame_of v))) (all S)
+    sent_inside : (v : View) → Inside v.rotor.echoes (all S) → Inside (list_in (Some (frame_of v))) (all S)
     sent_inside v inside = rw (frame_list v) (pick (ltb 0 (max_count (kind_of v.round))))
       where
         pick : (b : Bool) → Inside (cond b v.rotor.echoes []) (all S)

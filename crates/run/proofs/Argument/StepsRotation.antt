@@ -9,7 +9,7 @@ use Rattle.std.proofs.lemmas.Bool.{not-true, not-false}
 use Rattle.std.specs.Prelude.{ℕ, zero, suc, ◌+◌, ◌*◌, ◌<◌, ◌≤◌, Bool, true, false, cond, ◌&&◌, List, [], ◌⊎◌, ◌↔◌, ◌≡◌, leb, ltb, length, get_or}
 use Rattle.std.proofs.Math.Bool.{not, and-true, and-false}
 use Rattle.std.proofs.Common.{true≢false, inl, inr, ◌∙◌, subst, arith, leb-true, le-leb, ne_eqb}
-use Rattle.std.proofs.Math.Option.{Option, some}
+use Rattle.std.specs.Prelude.{Option, Some}
 use Rattle.std.proofs.Math.Path.{refl, sym, ap}
 use Rattle.controller.specs.Bytes.{Content, kind_of, max_count}
 use Rattle.controller.specs.Lists.{In, Rising}
@@ -201,11 +201,11 @@ module _ (S : Steps) where
       heard_in_round = heard_reception S K w.member w.timely (receives p t w)
 
       -- from a correct one at work p has the frame that it sent
-      pub received_sent : {s : ℕ} → AtWork S s t → had_from p t s ≡ some (frame_of (state s t))
+      pub received_sent : {s : ℕ} → AtWork S s t → had_from p t s ≡ Some (frame_of (state s t))
       received_sent {s} x = (receives p t w).frames s x.member x.active
 
       -- from one gone quiet its own, without its opinion
-      pub received_quiet : {s : ℕ} → In s correct → undecided (state s t) ≡ false → had_from p t s ≡ some (stand_in (state p t))
+      pub received_quiet : {s : ℕ} → In s correct → undecided (state s t) ≡ false → had_from p t s ≡ Some (stand_in (state p t))
       received_quiet {s} j d = (receives p t w).quiet s j d
 
     -- ---- the first round and the second
@@ -294,7 +294,7 @@ module _ (S : Steps) where
       named_here u = rw (made_value w, sym undecided_after ∙ u, phase_here) refl
 
     -- the list of the frame that p sends in round 2 + 3r
-    list_of_frame : {p r : ℕ} → Works rotation p r → list_in (some (frame_of (state p (turn_round r)))) ≡ (entering p r).rotor.echoes
+    list_of_frame : {p r : ℕ} → Works rotation p r → list_in (Some (frame_of (state p (turn_round r)))) ≡ (entering p r).rotor.echoes
     list_of_frame {p} {r} w =
         let v = state p (turn_round r) in
         frame_list v

@@ -12,7 +12,7 @@ use Rattle.std.proofs.Math.Bool.{and-eq-true_iff, and-false, or-true}
 use mathlib.Core.List.Memᴰ
 use mathlib.Core.List.{sum}
 use Rattle.std.proofs.Common.{inl, inr, ◌∙◌, arith, List, [], ◌∷◌, map}
-use Rattle.std.proofs.Math.Option.{some}
+use Rattle.std.specs.Prelude.{Some}
 use Rattle.std.proofs.Math.Path.{sym, ap, subst}
 use Rattle.std.proofs.Math.Decide.{ℕ_discrete}
 use Rattle.controller.specs.Bytes.{max_frame, max_numbers, last_round, content, one, under, under_one}
@@ -58,7 +58,7 @@ under_sending xs b y i =
 
 -- those of xs send the bytes b, which list a, and the others are silent, so that they count as having sent the own list o
 module _ (v : View) (xs b : List ℕ) {h a o : List ℕ} (heard : v.rotor.heard ≡ h) (others : ¬ In v.own xs)
-    (read : list_in (content b v.round) ≡ a) (sent : list_in (some (frame_of v)) ≡ o) where
+    (read : list_in (content b v.round) ≡ a) (sent : list_in (Some (frame_of v)) ≡ o) where
   list_from_lem : (x y : ℕ) → In y h → mem x (list_in ((receive v (sending xs b)).from y)) ≡ cond (mem y xs) (mem x a) (mem x o)
   list_from_lem x y i = elim (in_or_not y xs) [
     | inl j ↦
@@ -156,7 +156,7 @@ module _ {n : ℕ} (r : ℕ) {h c e a : List ℕ} {s : State} (before : Reached 
   tally_is : (x : ℕ) → tally received x ≡ counted x
   tally_is x =
       let apart : ¬ In v.own xs = rw stands.own (mem_out xs others) in
-      let sent : list_in (some (frame_of v)) ≡ e = frame_list v ∙ rw (stands.round, list_sent r) stands.echoes in
+      let sent : list_in (Some (frame_of v)) ≡ e = frame_list v ∙ rw (stands.round, list_sent r) stands.echoes in
       tally_from v xs b stands.heard apart (ap (λ t. list_in (content b t)) stands.round ∙ read) sent x known
 
   -- so the candidates become m and the echoes w, where m has too many numbers for a decision in phase r

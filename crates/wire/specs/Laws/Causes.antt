@@ -8,7 +8,7 @@
 use Rattle.std.specs.Prelude.{ℕ, ◌+◌, ◌*◌, ◌≤◌, ◌<◌, Bool, cond, ◌&&◌, List, ◌⊎◌, ◌≢◌, ◌≡◌, leb, eqb, length, get_or}
 use Rattle.std.proofs.Math.Bool.{true, false, and-eq-true_iff}
 use Rattle.std.proofs.Common.{inl, inr, sym, ap, ◌∙◌, leb-true, leb-false, le-leb, arith}
-use Rattle.std.proofs.Math.Option.{Option, some, none}
+use Rattle.std.specs.Prelude.{Option, Some, None, Result, Ok, Err}
 use Rattle.std.proofs.Math.Path.{refl}
 use Rattle.std.proofs.lemmas.Bool.{eqb-false}
 use Rattle.wire.specs.Limits.{frame_header, number_width, kind_at, count_at, last_round}
@@ -17,8 +17,8 @@ use Rattle.wire.specs.Frame.{kind_of, Content, length_fits, round_fits, head_fit
 use Rattle.wire.specs.Frame.{number_read, frame_read, FrameReads}
 use Rattle.wire.specs.Laws.Frame.{count_is, length_fits_lem, content_is, content_gives, head_gives}
 use Rattle.wire.specs.declared.frame.Frame.{Frame}
-use Rattle.wire.specs.declared.frame.Read.{Read}
-use Rattle.wire.specs.declared.frame.Read.TheVariants.{Valid, WrongLength, WrongRound, WrongContent}
+use Rattle.wire.specs.declared.frame.Void.{Void}
+use Rattle.wire.specs.declared.frame.Void.TheVariants.{WrongLength, WrongRound, WrongContent}
 
 -- "a frame under 8 bytes or whose length isn't 8 + 4 × count"
 abbrev pub LengthWrong : List ℕ → Type 0
@@ -30,10 +30,10 @@ RoundWrong s t = (¬ ((1 ≤ t) × (t ≤ last_round))) ⊎ ((word_at s 0 ≢ t)
 
 -- "tested after 11 in that order"; "13 for the rest"
 pub data Cause (s : List ℕ) (t : ℕ) : ℕ → Type 0 where
-  None : (c : Content) → content s t ≡ some c → Cause s t 0
+  Whole : (c : Content) → content s t ≡ Some c → Cause s t 0
   Length : LengthWrong s → Cause s t 11
   Round : (¬ LengthWrong s) → RoundWrong s t → Cause s t 12
-  Rest : (¬ LengthWrong s) → (¬ RoundWrong s t) → content s t ≡ none → Cause s t 13
+  Rest : (¬ LengthWrong s) → (¬ RoundWrong s t) → content s t ≡ None → Cause s t 13
 
 -- ---- the tests in the request's words
 
@@ -99,7 +99,7 @@ module _ (s : List ℕ) (t : ℕ) where
       pick false b d p q r = rw p (Length (length_wrong s p))
       pick true false d p q r = rw (p, q) (Round (length_right s p) (round_wrong s t q))
       pick true true false p q r = rw (p, q, r) (Rest (length_right s p) (round_right s t q) (content_is s t ∙ rw (p, q, r)))
-      pick true true true p q r = rw (p, q, r) (None (content_of s t) (content_is s t ∙ rw (p, q, r)))
+      pick true true true p q r = rw (p, q, r) (Whole (content_of s t) (content_is s t ∙ rw (p, q, r)))
 
   length_known : (¬ LengthWrong s) → length_fits s ≡ true
   length_known = passes (LengthWrong s) (length_fits s) (length_right s) (length_wrong s)
@@ -107,26 +107,26 @@ module _ (s : List ℕ) (t : ℕ) where
   round_known : (¬ RoundWrong s t) → head_fits s t ≡ true
   round_known = passes (RoundWrong s t) (head_fits s t) (round_right s t) (round_wrong s t)
 
-  rest_known : (¬ LengthWrong s) → (¬ RoundWrong s t) → content s t ≡ none → body_fits s (kind_of t) ≡ false
+  rest_known : (¬ LengthWrong s) → (¬ RoundWrong s t) → content s t ≡ None → body_fits s (kind_of t) ≡ false
   rest_known l r e = pick (body_fits s (kind_of t)) refl
     where
       pick : (d : Bool) → body_fits s (kind_of t) ≡ d → body_fits s (kind_of t) ≡ false
       pick true q =
-          let reads : content s t ≡ some (content_of s t) = content_is s t ∙ rw (length_known l, round_known r, q) in
+          let reads : content s t ≡ Some (content_of s t) = content_is s t ∙ rw (length_known l, round_known r, q) in
           let z : ◌≡◌ {A = ℕ} 0 1 = cc in
           absurd (omega arith)
       pick false q = q
 
   pub cause_number : {n : ℕ} → Cause s t n → read_refusal s t ≡ n
   unfolding read_refusal
-  cause_number (None c e) = let g = content_gives s t c e in rw (g.whole, g.head, g.body)
+  cause_number (Whole c e) = let g = content_gives s t c e in rw (g.whole, g.head, g.body)
   cause_number (Length w) = rw (fails (LengthWrong s) (length_fits s) (length_right s) (length_wrong s) w)
   cause_number (Round l w) = rw (length_known l, fails (RoundWrong s t) (head_fits s t) (round_right s t) (round_wrong s t) w)
   cause_number (Rest l r e) = rw (length_known l, round_known r, rest_known l r e)
 
 -- ---- the late clock, and the card
 
-pub other_round : (s : List ℕ) (t u : ℕ) (c : Content) → content s u ≡ some c → t ≢ u → read_refusal s t ≡ 12
+pub other_round : (s : List ℕ) (t u : ℕ) (c : Content) → content s u ≡ Some c → t ≢ u → read_refusal s t ≡ 12
 other_round s t u c e differ =
     let g = content_gives s u c e in
     cause_number s t (Round (length_right s g.whole) (inr (inl (λ q. differ (sym q ∙ (head_gives s u g.head).sent)))))
@@ -138,7 +138,7 @@ pub record HeadKept (s s' : List ℕ) : Type 0 where
   pub kind : get_or s' kind_at 0 ≡ get_or s kind_at 0
   pub count : half_at s' count_at ≡ half_at s count_at
 
-pub content_damaged : (s s' : List ℕ) (t : ℕ) (c : Content) → content s t ≡ some c → HeadKept s s' → content s' t ≡ none → read_refusal s' t ≡ 13
+pub content_damaged : (s s' : List ℕ) (t : ℕ) (c : Content) → content s t ≡ Some c → HeadKept s s' → content s' t ≡ None → read_refusal s' t ≡ 13
 content_damaged s s' t c e kept void = cause_number s' t (Rest whole head void)
   where
     whole : ¬ LengthWrong s'
@@ -155,17 +155,17 @@ content_damaged s s' t c e kept void = cause_number s' t (Rest whole head void)
 -- ---- the reader's answer
 
 -- the case with a frame, or with a number
-answer : Option Frame → ℕ → Read
-answer (some f) n = Valid f
-answer none n = cond (eqb n 11) WrongLength (cond (eqb n 12) WrongRound WrongContent)
+answer : Option Frame → ℕ → Result Frame Void
+answer (Some f) n = Ok f
+answer None n = Err (cond (eqb n 11) WrongLength (cond (eqb n 12) WrongRound WrongContent))
 
-answer_back : (r : Read) → answer (frame_read r) (number_read r) ≡ r
+answer_back : (r : Result Frame Void) → answer (frame_read r) (number_read r) ≡ r
 unfolding answer
-answer_back (Valid f) = refl
-answer_back WrongLength = refl
-answer_back WrongRound = refl
-answer_back WrongContent = refl
+answer_back (Ok f) = refl
+answer_back (Err WrongLength) = refl
+answer_back (Err WrongRound) = refl
+answer_back (Err WrongContent) = refl
 
-pub one_answer : (s : List ℕ) (t : ℕ) (q r : Read) → FrameReads s t q → FrameReads s t r → q ≡ r
+pub one_answer : (s : List ℕ) (t : ℕ) (q r : Result Frame Void) → FrameReads s t q → FrameReads s t r → q ≡ r
 one_answer s t q r h k =
     sym (answer_back q) ∙ rw (h.frame ∙ sym k.frame, h.number ∙ sym k.number) (answer_back r)

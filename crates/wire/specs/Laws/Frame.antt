@@ -3,24 +3,22 @@ use Rattle.std.specs.Prelude.{ℕ, zero, suc, ◌+◌, ◌*◌, ◌%◌, ◌≤�
 use Rattle.std.specs.Prelude.{get_or, drop}
 use Rattle.std.proofs.Math.Bool.{and-eq-true_iff}
 use Rattle.std.proofs.Common.{append-nil, sym, ap, ◌∙◌, leb-true, eqb-true, le-leb, eq-eqb, ne_eqb, le_trans, arith}
-use Rattle.std.proofs.Math.Option.{Option, some, none}
+use Rattle.std.specs.Prelude.{Option, Some, None, Result, Ok, Err}
 use Rattle.std.proofs.lemmas.Bool.{eqb-false}
 use Rattle.std.proofs.Math.Seq.{drop-length}
 use Rattle.wire.specs.Limits.{frame_header, number_width, kind_at, bit_at, count_at, max_numbers, max_frame}
-use Rattle.wire.specs.declared.frame.Choice.{Choice}
-use Rattle.wire.specs.declared.frame.Choice.TheVariants.{Bit, None}
 use Rattle.wire.specs.declared.frame.Said.{Said}
 use Rattle.wire.specs.declared.frame.Said.TheVariants.{Init, Roster, Value, Proposal, Opinion}
 use Rattle.wire.specs.declared.frame.Frame.{Frame}
-use Rattle.wire.specs.declared.frame.Read.{Read}
-use Rattle.wire.specs.declared.frame.Read.TheVariants.{Valid}
+use Rattle.wire.specs.declared.frame.Void.{Void}
+use Rattle.wire.specs.declared.frame.Void.TheVariants.{WrongLength, WrongRound, WrongContent}
 use Rattle.wire.specs.Words.{half_at, word_at, words_at, words_bytes, Below}
 use Rattle.wire.specs.Numbers.{rising}
 use Rattle.wire.specs.Laws.Words.{half_back, word_back, words_behind, words_back, words_length, byte_drop, half_drop, word_drop, words_drop}
 use Rattle.wire.specs.Refusal.{first_failed}
 use Rattle.wire.specs.Frame.{kind_of, bit_chosen, kind_said, bit_said, chosen_by, said_by, bit_fits, max_count, Content}
 use Rattle.wire.specs.Frame.{count_of, numbers_of, length_fits, round_fits, head_fits, list_fits, body_fits, read_refusal, content_of, content}
-use Rattle.wire.specs.Frame.{number_read, frame_read, frame_in, bit_in, FrameReads, chosen_fits, said_fits, writable, header_bytes, frame_bytes}
+use Rattle.wire.specs.Frame.{void_number, frame_read, frame_in, bit_in, FrameReads, chosen_fits, said_fits, writable, header_bytes, frame_bytes}
 
 max_count_bound : (k : ℕ) → max_count k ≤ max_numbers
 unfolding max_count
@@ -52,7 +50,7 @@ none_refused s t = pick (length_fits s) (head_fits s t) (body_fits s (kind_of t)
     pick true true false = refl
     pick true true true = refl
 
-pub content_is : (s : List ℕ) (t : ℕ) → content s t ≡ cond (length_fits s && head_fits s t && body_fits s (kind_of t)) (some (content_of s t)) none
+pub content_is : (s : List ℕ) (t : ℕ) → content s t ≡ cond (length_fits s && head_fits s t && body_fits s (kind_of t)) (Some (content_of s t)) None
 unfolding content
 content_is s t = rw (none_refused s t)
 
@@ -75,31 +73,37 @@ frame_header_lem s t h =
 
 -- an answer with the right number, and with the frame where that is 0
 pub frame_reads : (s : List ℕ) (t : ℕ) → read_refusal s t ≡ 0
-    → FrameReads s t (Valid (record { round = t; said = said_by (kind_of t) (get_or s bit_at 0) }))
+    → FrameReads s t (Ok (record { round = t; said = said_by (kind_of t) (get_or s bit_at 0) }))
 unfolding content
 frame_reads s t h = record { number = sym h; frame = rw (eq-eqb _ _ h) }
 
-pub void_reads : (s : List ℕ) (t : ℕ) (r : Read) → frame_read r ≡ none → number_read r ≡ read_refusal s t → read_refusal s t ≢ 0 → FrameReads s t r
+-- a cause is never 0
+pub caused : (e : Void) → void_number e ≢ 0
+caused WrongLength = λ (z : ◌≡◌ {A = ℕ} 11 0). absurd (omega arith)
+caused WrongRound = λ (z : ◌≡◌ {A = ℕ} 12 0). absurd (omega arith)
+caused WrongContent = λ (z : ◌≡◌ {A = ℕ} 13 0). absurd (omega arith)
+
+pub void_reads : (s : List ℕ) (t : ℕ) (e : Void) → void_number e ≡ read_refusal s t → FrameReads s t (Err e)
 unfolding content
-void_reads s t r empty number h = record { number = number; frame = empty ∙ rw (ne_eqb _ _ h) }
+void_reads s t e number = record { number = number; frame = rw (ne_eqb _ _ (λ z. caused e (number ∙ z))) }
 
 -- what an answer says is what the content says
-pub bit_read : (s : List ℕ) (t : ℕ) (r : Read) (f : Frame) → FrameReads s t r → r ≡ Valid f → bit_said f.said ≡ bit_in (content s t)
+pub bit_read : (s : List ℕ) (t : ℕ) (r : Result Frame Void) (f : Frame) → FrameReads s t r → r ≡ Ok f → bit_said f.said ≡ bit_in (content s t)
 bit_read s t r f h e = pick (content s t) (sym h.frame ∙ ap frame_read e)
   where
-    pick : (o : Option Content) → frame_in o ≡ some f → bit_said f.said ≡ bit_in o
-    pick none e = let z : ◌≡◌ {A = ℕ} 0 1 = cc in absurd (omega arith)
-    pick (some c) e = cc
+    pick : (o : Option Content) → frame_in o ≡ Some f → bit_said f.said ≡ bit_in o
+    pick None e = let z : ◌≡◌ {A = ℕ} 0 1 = cc in absurd (omega arith)
+    pick (Some c) e = cc
 
-pub nothing_read : (s : List ℕ) (t : ℕ) (r : Read) → FrameReads s t r → frame_read r ≡ none → 3 ≡ bit_in (content s t)
+pub nothing_read : (s : List ℕ) (t : ℕ) (r : Result Frame Void) → FrameReads s t r → frame_read r ≡ None → 3 ≡ bit_in (content s t)
 nothing_read s t r h e = pick (content s t) (sym h.frame ∙ e)
   where
-    pick : (o : Option Content) → frame_in o ≡ none → 3 ≡ bit_in o
-    pick none e = refl
-    pick (some c) e = let z : ◌≡◌ {A = ℕ} 0 1 = cc in absurd (omega arith)
+    pick : (o : Option Content) → frame_in o ≡ None → 3 ≡ bit_in o
+    pick None e = refl
+    pick (Some c) e = let z : ◌≡◌ {A = ℕ} 0 1 = cc in absurd (omega arith)
 
 -- "Length 0 is a void frame"
-pub empty_void : (t : ℕ) → content [] t ≡ none
+pub empty_void : (t : ℕ) → content [] t ≡ None
 unfolding content read_refusal length_fits
 empty_void t = refl
 
@@ -139,15 +143,15 @@ written_short c h = omega (arith, frame_length c, writable_count c h)
 
 -- ---- what a frame says, by its kind and bit
 
-chosen_back : (c : Choice) → chosen_fits c ≡ true → chosen_by (bit_chosen c) ≡ c
+chosen_back : (c : Option ℕ) → chosen_fits c ≡ true → chosen_by (bit_chosen c) ≡ c
 unfolding chosen_by
-chosen_back (Bit b) h =
+chosen_back (Some b) h =
     let l : b ≤ 1 = leb-true b 1 h in
     rw (ne_eqb b 2 (λ e. omega arith))
 chosen_back None h = refl
 
-chosen_fits_lem : (c : Choice) → chosen_fits c ≡ true → leb (bit_chosen c) 2 ≡ true
-chosen_fits_lem (Bit b) h = let l : b ≤ 1 = leb-true b 1 h in le-leb b 2 (omega arith)
+chosen_fits_lem : (c : Option ℕ) → chosen_fits c ≡ true → leb (bit_chosen c) 2 ≡ true
+chosen_fits_lem (Some b) h = let l : b ≤ 1 = leb-true b 1 h in le-leb b 2 (omega arith)
 chosen_fits_lem None h = refl
 
 -- what is allowed says 0, 1, or 2 for none
@@ -209,14 +213,14 @@ body_written c w =
       w.rise,
     )
 
-pub reads_written : (c : Content) → writable c ≡ true → content (frame_bytes c) c.round ≡ some c
+pub reads_written : (c : Content) → writable c ≡ true → content (frame_bytes c) c.round ≡ Some c
 unfolding frame_bytes
 reads_written c h =
     let w = writable_gives c h in
     let said : said_by (kind_of c.round) (bit_said c.said) ≡ c.said = rw (← w.kind) (said_back c.said w.said) in
     let numbers = numbers_written c in
     rw (content_is (frame_bytes c) c.round, length_written c, head_written c w, body_written c w)
-    (λ i. some (record { round = c.round; said = said i; numbers = numbers i }))
+    (λ i. Some (record { round = c.round; said = said i; numbers = numbers i }))
 
 -- ---- what reads as content is written as the same bytes
 
@@ -233,7 +237,7 @@ chosen_bit : (b : ℕ) → bit_chosen (chosen_by b) ≡ b
 unfolding chosen_by
 chosen_bit b = pick (eqb b 2) refl
   where
-    pick : (t : Bool) → eqb b 2 ≡ t → bit_chosen (cond t None (Bit b)) ≡ b
+    pick : (t : Bool) → eqb b 2 ≡ t → bit_chosen (cond t None (Some b)) ≡ b
     pick true e = sym (eqb-true b 2 e)
     pick false e = refl
 
@@ -262,7 +266,7 @@ chosen_allowed : (b : ℕ) → leb b 2 ≡ true → chosen_fits (chosen_by b) �
 unfolding chosen_by
 chosen_allowed b h = pick (eqb b 2) refl
   where
-    pick : (t : Bool) → eqb b 2 ≡ t → chosen_fits (cond t None (Bit b)) ≡ true
+    pick : (t : Bool) → eqb b 2 ≡ t → chosen_fits (cond t None (Some b)) ≡ true
     pick true e = refl
     pick false e = let l = leb-true b 2 h in let n : b ≢ 2 = eqb-false b 2 e in le-leb b 1 (omega arith)
 
@@ -279,10 +283,10 @@ pub record ReadFrom (s : List ℕ) (t : ℕ) (c : Content) : Type 0 where
   pub body : body_fits s (kind_of t) ≡ true
   pub content : content_of s t ≡ c
 
-pub content_gives : (s : List ℕ) (t : ℕ) (c : Content) → content s t ≡ some c → ReadFrom s t c
+pub content_gives : (s : List ℕ) (t : ℕ) (c : Content) → content s t ≡ Some c → ReadFrom s t c
 content_gives s t c e = pick (length_fits s && head_fits s t && body_fits s (kind_of t)) refl (sym (content_is s t) ∙ e)
   where
-    pick : (f : Bool) → (length_fits s && head_fits s t && body_fits s (kind_of t)) ≡ f → cond f (some (content_of s t)) none ≡ some c → ReadFrom s t c
+    pick : (f : Bool) → (length_fits s && head_fits s t && body_fits s (kind_of t)) ≡ f → cond f (Some (content_of s t)) None ≡ Some c → ReadFrom s t c
     pick true h q =
         let e₂ = (and-eq-true_iff (length_fits s && head_fits s t) (body_fits s (kind_of t))).0 h in
         let e₁ = (and-eq-true_iff (length_fits s) (head_fits s t)).0 e₂.0 in
@@ -290,13 +294,13 @@ content_gives s t c e = pick (length_fits s && head_fits s t && body_fits s (kin
     pick false h q = let z : ◌≡◌ {A = ℕ} 0 1 = cc in absurd (omega arith)
 
 -- content that was read is of the round's kind
-pub read_kind : (s : List ℕ) (t : ℕ) (c : Content) → content s t ≡ some c → kind_said c.said ≡ kind_of t
+pub read_kind : (s : List ℕ) (t : ℕ) (c : Content) → content s t ≡ Some c → kind_said c.said ≡ kind_of t
 read_kind s t c e =
     let k = kind_range t in
     ap (λ (d : Content). kind_said d.said) (sym (content_gives s t c e).content) ∙ said_kind (kind_of t) (get_or s bit_at 0) k.0 k.1
 
 -- the numbers of content that was read lie in the bytes, from the header's end to the last byte
-pub read_numbers : (s : List ℕ) (t : ℕ) (c : Content) → content s t ≡ some c
+pub read_numbers : (s : List ℕ) (t : ℕ) (c : Content) → content s t ≡ Some c
     → (c.numbers ≡ numbers_of s) × (length s ≡ frame_header + number_width * count_of s)
 read_numbers s t c e =
     let g = content_gives s t c e in
@@ -338,7 +342,7 @@ body_gives s k h =
     let e₂ = (and-eq-true_iff (leb (count_of s) (max_count k)) (rising 0 (numbers_of s))).0 e₁.1 in
     record { bit = e₁.0; count = leb-true _ _ e₂.0; rise = e₂.1 }
 
-pub writes_read : (s : List ℕ) (t : ℕ) (c : Content) → Below 256 s → content s t ≡ some c → frame_bytes c ≡ s
+pub writes_read : (s : List ℕ) (t : ℕ) (c : Content) → Below 256 s → content s t ≡ Some c → frame_bytes c ≡ s
 unfolding frame_bytes
 writes_read s t c b e =
     let g = content_gives s t c e in
@@ -350,7 +354,7 @@ writes_read s t c b e =
     ap frame_bytes (sym g.content)
     ∙ rw (kind, bit, count, sym h.sent) (frame_split s b (length_fits_lem s g.whole))
 
-pub read_writable : (s : List ℕ) (t : ℕ) (c : Content) → content s t ≡ some c → writable c ≡ true
+pub read_writable : (s : List ℕ) (t : ℕ) (c : Content) → content s t ≡ Some c → writable c ≡ true
 unfolding writable
 read_writable s t c e =
     let g = content_gives s t c e in
@@ -363,7 +367,7 @@ read_writable s t c e =
     ∙ rw (h.round, kind, eq-eqb (kind_of t) (kind_of t) refl, said_allowed (kind_of t) (get_or s bit_at 0) k.0 k.1 d.bit, le-leb _ _ count, d.rise)
 
 -- "A frame is at most 264 bytes": one that is read
-pub read_short : (s : List ℕ) (t : ℕ) (c : Content) → content s t ≡ some c → length s ≤ max_frame
+pub read_short : (s : List ℕ) (t : ℕ) (c : Content) → content s t ≡ Some c → length s ≤ max_frame
 read_short s t c e =
     let g = content_gives s t c e in
     omega (arith, length_fits_lem s g.whole, (body_gives s (kind_of t) g.body).count, max_count_bound (kind_of t))

@@ -4,7 +4,7 @@
 use Rattle.std.proofs.lemmas.Bool.{lt-leb}
 use Rattle.std.specs.Prelude.{ℕ, ◌+◌, ◌*◌, ◌≤◌, ◌<◌, Bool, cond, List, [], ◌≢◌, ◌≡◌, length, drop}
 use Rattle.std.proofs.Math.Bool.{true, false}
-use Rattle.std.proofs.Math.Option.{Option, some, none}
+use Rattle.std.specs.Prelude.{Option, Some, None}
 use Rattle.std.proofs.Math.Path.{refl, ap}
 use Rattle.std.proofs.Common.{sym, ◌∙◌, add-zero, add_assoc, length-take, length-drop, get_or-take, get_or-drop, arith, eq-eqb, ne_eqb, le-leb, leb-true}
 use Rattle.std.proofs.Math.Decide.{ℕ_discrete}
@@ -38,8 +38,8 @@ module _ (s : List ℕ) (t b : ℕ)
   said_head = pick (content s t) refl
     where
       pick : (o : Option Content) → content s t ≡ o → bit_in o ≡ b → head_at s 0 ≡ head_of t b
-      pick none q e = absurd (omega arith)
-      pick (some c) q e =
+      pick None q e = absurd (omega arith)
+      pick (Some c) q e =
           let g = content_gives s t c q in
           let h = head_gives s t g.head in
           let d = body_gives s (kind_of t) g.body in
@@ -117,20 +117,20 @@ module _ (s : List ℕ) (o t b : ℕ) (bytes : Below 256 s) (short : Short t) (f
 
 -- ---- any other bytes
 
-long_none : (s : List ℕ) (t : ℕ) → Short t → length s ≢ frame_header → content s t ≡ none
+long_none : (s : List ℕ) (t : ℕ) → Short t → length s ≢ frame_header → content s t ≡ None
 long_none s t short long = pick (content s t) refl
   where
-    pick : (o : Option Content) → content s t ≡ o → o ≡ none
-    pick none q = refl
-    pick (some c) q =
+    pick : (o : Option Content) → content s t ≡ o → o ≡ None
+    pick None q = refl
+    pick (Some c) q =
         let g = content_gives s t c q in
         let few = no_numbers (kind_of t) short.least short.most in
         absurd (long (omega (arith, length_fits_lem s g.whole, (body_gives s (kind_of t) g.body).count)))
 
-pub long_void : (s : List ℕ) (o n t : ℕ) → Short t → n ≢ frame_header → content (part s o n) t ≡ none
+pub long_void : (s : List ℕ) (o n t : ℕ) → Short t → n ≢ frame_header → content (part s o n) t ≡ None
 unfolding part
 long_void s o n t short long = pick (leb (o + n) (length s)) refl
   where
-    pick : (x : Bool) → leb (o + n) (length s) ≡ x → content (cond x (take n (drop o s)) []) t ≡ none
+    pick : (x : Bool) → leb (o + n) (length s) ≡ x → content (cond x (take n (drop o s)) []) t ≡ None
     pick true h = long_none _ t short (λ e. long (sym (part_length s o n true h) ∙ e))
     pick false h = empty_void t

@@ -5,12 +5,11 @@ use Rattle.std.proofs.Common.{true≢false, sym, ap, ap₂, ◌∙◌, eq-eqb, n
 use mathlib.Core.List.{Memᴰ}
 use Rattle.std.proofs.Math.Decide.{ℕ_discrete}
 use Rattle.wire.specs.Limits.{offset_at, length_at}
-use Rattle.wire.specs.Words.{Below}
 use Rattle.wire.specs.Tray.{Entry, entry_count, entry_at, offset_of, length_of, sender, place, part, entries_from, entries, well_formed}
 use Rattle.wire.specs.Found.{frames_under, same_bytes, Under, nothing, one, several, under, first_from, answer, found, meaning}
 use Rattle.wire.specs.Notes.{no_frame, different, found_by, same_at, note_with, note_from}
 use Rattle.wire.specs.Laws.Found.{same_is, beside, among_step, one_first, first_frame}
-use Rattle.wire.specs.Laws.Tray.{part_inside, place_is}
+use Rattle.wire.specs.Laws.Tray.{well_formed_gives, part_inside, place_is}
 use Rattle.wire.specs.declared.found.Found.{Found}
 use Rattle.wire.specs.declared.found.Found.TheVariants.{At, Nothing, Several}
 
@@ -39,14 +38,14 @@ found_small k o n h e =
     pick false false = (omega arith, omega arith)
 
 -- the word of an entry is its offset and its length; the frame lies behind the directory, so that the word is no small number
-module _ (s : List ℕ) (packed : well_formed s ≡ true) (bytes : Below 256 s) where
+module _ (s : List ℕ) (packed : well_formed s ≡ true) where
   place_parts : (i : ℕ) → i < entry_count s → (place s i ≡ offset_of s i * 65536 + length_of s i) × (16 ≤ offset_of s i) × (length_of s i < 65536)
   place_parts i h =
       let third : entry_at i + offset_at + 2 ≡ entry_at i + length_at = omega arith in
       let fourth : entry_at i + offset_at + 3 ≡ entry_at i + length_at + 1 = omega arith in (
         place_is s packed i h ∙ rw (third, fourth) (omega arith),
         omega (arith, (part_inside s packed i h).0),
-        omega (arith, bytes (entry_at i + length_at), bytes (entry_at i + length_at + 1)),
+        omega (arith, (part_inside s packed i h).1, (well_formed_gives s packed).short),
       )
 
   place_found : (i : ℕ) → i < entry_count s → found_by (place s i) ≡ At (offset_of s i) (length_of s i)
@@ -93,15 +92,15 @@ note_chosen s k p f g h a b =
     let chosen : note_with s k p ≡ cond (same_at s (found_by p) (found_by k)) p different = rw (ne_eqb k no_frame h) in
     chosen ∙ ap (λ t. cond t p different) (ap₂ (same_at s) a b)
 
-module _ (s : List ℕ) (packed : well_formed s ≡ true) (bytes : Below 256 s) where
+module _ (s : List ℕ) (packed : well_formed s ≡ true) where
   -- entry i is under the number too: k is the note on those behind it, u what there is behind it, and j the first of them
   note_step : (i k j : ℕ) (u : Under) → i < entry_count s → found_by k ≡ answer s j u
       → ((c : List ℕ) → u ≡ one c → (j < entry_count s) × (part s (offset_of s j) (length_of s j) ≡ c))
       → found_by (note_with s k (place s i)) ≡ answer s i (beside (part s (offset_of s i) (length_of s i)) u)
-  note_step i k j nothing h e first = rw (note_nothing k e) (place_found s packed bytes i h)
+  note_step i k j nothing h e first = rw (note_nothing k e) (place_found s packed i h)
   note_step i k j (one c) h e first =
       let behind = first c refl in
-      let here = place_found s packed bytes i h in
+      let here = place_found s packed i h in
       rw (
         note_chosen s k (place s i) _ _ (note_some k (ap is_nothing e)) here e,
         le-leb (offset_of s i + length_of s i) (length s) (part_inside s packed i h).1,
@@ -114,7 +113,7 @@ module _ (s : List ℕ) (packed : well_formed s ≡ true) (bytes : Below 256 s) 
       pick true here = here
       pick false here = refl
   note_step i k j several h e first =
-      ap found_by (note_chosen s k (place s i) _ _ (note_some k (ap is_nothing e)) (place_found s packed bytes i h) e)
+      ap found_by (note_chosen s k (place s i) _ _ (note_some k (ap is_nothing e)) (place_found s packed i h) e)
 
   notes_found : (x n i : ℕ) → i + n ≤ entry_count s → found_by (note_from s x n i) ≡ answer s (first_from s x n i) (under x (entries_from s n i))
   notes_found x zero i h = refl

@@ -1,6 +1,11 @@
 -- Laws of big-endian numbers: what is written reads back, and what reads is written as the same bytes.
-use Rattle.std.specs.Prelude.{ℕ, zero, suc, ◌+◌, ◌*◌, ◌-◌, ◌/◌, ◌%◌, ◌≤◌, ◌<◌, Bool, true, false, cond, List, [], ◌∷◌, ◌++◌, ◌≡◌, refl, length, get_or, drop}
-use Rattle.std.proofs.Common.{append_assoc, ap, add-zero, add_assoc, arith, drop-cons, get_or-append-add}
+use Rattle.std.specs.Prelude.{ℕ, zero, suc, ◌+◌, ◌*◌, ◌-◌, ◌/◌, ◌%◌, ◌≤◌, ◌<◌, Bool, true, false, cond, List, [], ◌∷◌, ◌++◌, ◌≡◌, refl, length}
+use Rattle.std.specs.Prelude.{get_or, map, take, drop}
+use Rattle.std.specs.Int.{w32, from_be_bytes}
+use Rattle.std.specs.Simd.{first_chunks}
+use Rattle.std.proofs.Common.{append_assoc, ap, add-zero, add_assoc, arith, drop-cons, drop-drop, get_or-append-add, get_or-take, get_or-drop}
+use Rattle.std.proofs.Common.{length-drop, ◌∙◌}
+use Rattle.wire.specs.Limits.{frame_header, number_width}
 use Rattle.wire.specs.Words.{half_at, word_at, half_bytes, word_bytes, words_at, words_bytes, Below}
 
 -- ---- along the numbers
@@ -21,6 +26,23 @@ words_step s b i n h =
     let e : n - i ≡ suc (n - (i + 1)) = omega arith in
     let f : b + 4 * i + 4 ≡ b + 4 * (i + 1) = omega arith in
     rw (e, f)
+
+-- the numbers of four bytes each in the chunks from a place on
+words_chunked : (s : List ℕ) (at n : ℕ) → map (from_be_bytes w32) (first_chunks number_width n (drop at s)) ≡ words_at s at n
+words_chunked s at zero = refl
+words_chunked s at (suc n) =
+    let byte : (k : ℕ) → k < 4 → get_or (take 4 (drop at s)) k 0 ≡ get_or s (at + k) 0 = λ k h. get_or-take 4 (drop at s) k 0 h ∙ get_or-drop at s k 0 in
+    let first : from_be_bytes w32 (take 4 (drop at s)) ≡ word_at s at =
+    rw (byte 0 (omega arith), byte 1 (omega arith), byte 2 (omega arith), byte 3 (omega arith), add-zero at) in
+    rw (first, drop-drop 4 at s, words_chunked s (at + 4) n)
+
+-- the chunks behind a header are the numbers, where the length is right
+pub numbers_chunked : (s : List ℕ) (n : ℕ) → length s ≡ frame_header + number_width * n
+    → let list = drop frame_header s in
+    map (from_be_bytes w32) (first_chunks number_width (length list / number_width) list) ≡ words_at s frame_header n
+numbers_chunked s n h =
+    let many : length (drop frame_header s) / number_width ≡ n = omega (arith, length-drop frame_header s) in
+    rw many (words_chunked s frame_header n)
 
 -- numbers made of bytes fit four of them
 pub words_below : (s : List ℕ) → Below 256 s → (at n : ℕ) → Below 4294967296 (words_at s at n)

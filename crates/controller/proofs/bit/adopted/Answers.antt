@@ -1,22 +1,24 @@
--- `controller::bit::adopted` meets its contract: each branch gives the tests of `adopted_from` their values.
+-- `controller::bit::adopted` meets its contract: each case gives the tests of `adopted_from` their values.
 use Rattle.std.proofs.Common.{le-leb}
 use Rattle.std.proofs.lemmas.Bool.{lt-leb}
 use Rattle.controller.specs.Work.Bit.{adopted_from}
 use Rattle.controller.specs.Thirds.{third}
 use Rattle.controller.proofs.bit.adopted.Goals as goal
 
-pub returns-then-h-ones : goal.returns-then-h-ones
+pub returns-in-true-false : goal.returns-in-true-false
 unfolding adopted_from third
-returns-then-h-ones c = rw (le-leb _ _ c.if-h-zeros.true, le-leb _ _ c.if-h-ones.true)
+returns-in-true-false c = rw (le-leb _ _ c.in-true-false.is-0, lt-leb _ _ c.in-true-false.is-1)
 
-pub returns-else-h-ones : goal.returns-else-h-ones
+pub returns-in-false-true : goal.returns-in-false-true
 unfolding adopted_from third
-returns-else-h-ones c = rw (le-leb _ _ c.if-h-zeros.true, lt-leb _ _ c.if-h-ones.false)
+returns-in-false-true c = rw (lt-leb _ _ c.in-false-true.is-0, le-leb _ _ c.in-false-true.is-1)
 
-pub returns-then-h-ones-2 : goal.returns-then-h-ones-2
+-- both
+pub returns-in_default : goal.returns-in_default
 unfolding adopted_from third
-returns-then-h-ones-2 c = rw (lt-leb _ _ c.if-h-zeros.false, le-leb _ _ c.if-h-ones-2.true)
+returns-in_default c = rw (le-leb _ _ c.in_default.is-0, le-leb _ _ c.in_default.is-1)
 
-pub returns-else-h-ones-2 : goal.returns-else-h-ones-2
+-- neither
+pub returns-in_default-2 : goal.returns-in_default-2
 unfolding adopted_from third
-returns-else-h-ones-2 c = rw (lt-leb _ _ c.if-h-zeros.false, lt-leb _ _ c.if-h-ones-2.false)
+returns-in_default-2 c = rw (lt-leb _ _ c.in_default.is-0, lt-leb _ _ c.in_default.is-1)

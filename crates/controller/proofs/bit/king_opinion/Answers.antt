@@ -1,62 +1,67 @@
 -- `controller::bit::king_opinion` meets its contract: a king that is heard stands at its place, and its bit is read there;
 -- of one that is not heard nothing is received.
-use Rattle.std.specs.Prelude.{ℕ, ◌<◌, Bool, true, cond, List, ◌≡◌, leb, eqb, get_or}
+use Rattle.std.specs.Prelude.{ℕ, ◌<◌, true, cond, List, ◌≡◌, leb, eqb, get_or}
 use Rattle.std.proofs.Common.{sym, ap, ◌∙◌, arith, le-leb}
 use Rattle.std.proofs.lemmas.Bool.{lt-leb}
 use Rattle.controller.specs.Bit.{king_opinion}
-use Rattle.controller.specs.Laws.Work.Ready.{list_place, ready_opinion, ready_unheard}
-use Rattle.controller.specs.Laws.State.{sound_list_gives}
+use Rattle.controller.specs.Laws.Work.Ready.{list_place, ready_few, ready_opinion, ready_unheard}
+use Rattle.controller.specs.Laws.State.{rules_heard}
 use Rattle.controller.specs.Lists.{mem}
 use Rattle.controller.specs.Received.{opinion_in}
-use Rattle.controller.specs.State.{view, sound_list}
-use Rattle.controller.specs.Work.Lists.{in_places, below}
+use Rattle.controller.specs.State.{view}
+use Rattle.controller.specs.Work.Lists.{below}
 use Rattle.controller.specs.Work.Received.{received_by, Ready, bit_under}
 use Rattle.controller.specs.declared.state.State.{State}
 use Rattle.wire.specs.Frame.{kind_of}
 use Rattle.wire.specs.Limits.{max_numbers}
 use Rattle.wire.specs.Numbers.{listed}
-use Rattle.wire.specs.declared.frame.Numbers.{Numbers}
-use Rattle.controller.proofs.bit.king_opinion.Goals.{Then-has_at}
+use Rattle.controller.proofs.bit.king_opinion.Goals.{Else-not-has_at, After-received_bit}
 use Rattle.controller.proofs.bit.king_opinion.Goals as goal
 
--- the king stands at place j of those heard, d is the bit that is read there, and a what it says if it has no entry
-module _ {s : State} {b f : List ℕ} (ready : Ready s b f) (turn : kind_of s.round ≡ 5) (j d : ℕ)
-    (inside : j < s.heard.len) (there : get_or s.heard.at j 0 ≡ s.king)
-    (a : ℕ) (absent : a ≡ cond (eqb s.king s.own) s.said 2) (read : d ≡ bit_under s.round a b (get_or f j 0)) where
-  opinion_is : king_opinion (view s) (received_by s b) ≡ cond (leb d 1) d 2
-  opinion_is = ready_opinion ready turn j s.king a inside there absent ∙ rw (← read)
+-- the king is heard, and p is its place
+module _ {s : State} {b f : List ℕ} (ready : Ready s b f) (p : ℕ) (at : p ≡ below s.king (listed s.heard)) (there : mem s.king (listed s.heard) ≡ true) where
+  placed : (p < s.heard.len) × (get_or s.heard.at p 0 ≡ s.king)
+  placed = rw at (list_place s.heard (rules_heard s ready.sound) s.king there)
 
--- a number that is found stands at its place
-placed : (n : Numbers) (x p : ℕ) (t : Bool) → sound_list n ≡ true → p ≡ below x (listed n) → t ≡ mem x (listed n) → t ≡ true
-    → (p < n.len) × (get_or n.at p 0 ≡ x)
-placed n x p t sound place found is = rw place (list_place n sound x (sym found ∙ is))
+  -- which is one of 64
+  inside : p < max_numbers
+  inside = omega (arith, placed, ready_few ready)
 
-king_placed : (c : Then-has_at) → (c.place_in-place.result < c.args.fields.heard) × (get_or c.args.heard.now c.place_in-place.result 0 ≡ c.args.fields.king)
-king_placed c = placed (in_places c.args.fields.heard c.args.heard.now) _ _ _ c.requires c.place_in-place.ensures c.has_at.ensures c.if-has_at.true
+  -- d is the bit that is read there, and a what it says if it has no entry
+  opinion_is : kind_of s.round ≡ 5 → (a d : ℕ) → a ≡ cond (eqb s.king s.own) s.said 2 → d ≡ bit_under s.round a b (get_or f p 0)
+      → king_opinion (view s) (received_by s b) ≡ cond (leb d 1) d 2
+  opinion_is turn a d absent read = ready_opinion ready turn p s.king a placed.0 placed.1 absent ∙ rw (← read)
 
--- which is one of 64
-king_inside : (c : Then-has_at) → c.place_in-place.result < max_numbers
-king_inside c =
-    let tests = sound_list_gives (in_places c.args.fields.heard c.args.heard.now) c.requires in
-    omega (arith, king_placed c, tests.used, tests.list.short)
+king_inside : (c : Else-not-has_at) → c.place_in-place.result < max_numbers
+king_inside c = inside c.requires.0 _ c.place_in-place.ensures (sym c.has_at.ensures ∙ c.if-not-has_at.false)
 
-pub offset_bounds-notes-place : goal.offset_bounds-notes-place
-offset_bounds-notes-place c = omega (arith, king_inside (goal.at.offset_bounds-notes-place c).Then-has_at)
+opinion : (c : After-received_bit) (d : ℕ)
+    → d ≡ bit_under c.args.state.now.round c.opinion_of-absent.result c.args.noted.now.tray.now (get_or c.args.noted.now.notes c.place_in-place.result 0)
+    → king_opinion (view c.args.state.now) (received_by c.args.state.now c.args.noted.now.tray.now) ≡ cond (leb d 1) d 2
+opinion c d =
+    let there = sym c.has_at.ensures ∙ c.if-not-has_at.false in
+    opinion_is c.requires.0 _ c.place_in-place.ensures there c.requires.1 _ d c.opinion_of-absent.ensures
 
-pub bounds-notes-place : goal.bounds-notes-place
-bounds-notes-place c = omega (arith, king_inside (goal.at.bounds-notes-place c).Then-has_at)
+pub place_in-place-requires : goal.place_in-place-requires
+place_in-place-requires c = rules_heard c.args.state.now c.requires.0.sound
 
-pub returns-then-bit-le1 : goal.returns-then-bit-le1
-returns-then-bit-le1 c x e ready turn =
-    let place = king_placed (goal.at.returns-then-bit-le1 c).Then-has_at in
-    let is = opinion_is ready turn _ _ place.0 place.1 _ c.opinion_of-absent.ensures c.received_bit-bit.ensures in
-    sym (is ∙ rw (le-leb _ 1 c.if-bit-le1.true))
+pub has_at-requires : goal.has_at-requires
+has_at-requires c = (rules_heard c.args.state.now c.requires.0.sound, c.place_in-place.ensures)
 
-pub returns-else-bit-le1 : goal.returns-else-bit-le1
-returns-else-bit-le1 c x e ready turn =
-    let place = king_placed (goal.at.returns-else-bit-le1 c).Then-has_at in
-    let is = opinion_is ready turn _ _ place.0 place.1 _ c.opinion_of-absent.ensures c.received_bit-bit.ensures in
-    sym (is ∙ rw (lt-leb _ 1 c.if-bit-le1.false))
+pub returns-then-not-has_at : goal.returns-then-not-has_at
+returns-then-not-has_at c = sym (ap opinion_in (ready_unheard c.requires.0 c.args.state.now.king (sym c.has_at.ensures ∙ c.if-not-has_at.true)))
 
-pub returns-else-has_at : goal.returns-else-has_at
-returns-else-has_at c x e ready turn = sym (ap opinion_in (ready_unheard ready c.args.fields.king (sym c.has_at.ensures ∙ c.if-has_at.false)))
+pub offset_bounds-noted-place : goal.offset_bounds-noted-place
+offset_bounds-noted-place c = omega (arith, king_inside (goal.at.offset_bounds-noted-place c).Else-not-has_at)
+
+pub bounds-noted-place : goal.bounds-noted-place
+bounds-noted-place c = king_inside (goal.at.bounds-noted-place c).Else-not-has_at
+
+pub returns-in-Some : goal.returns-in-Some
+returns-in-Some c = sym (opinion (goal.at.returns-in-Some c).After-received_bit c.in-Some.bit c.in-Some.ensures ∙ rw (le-leb _ 1 c.if-bit-le1.true))
+
+pub returns-in_default : goal.returns-in_default
+returns-in_default c = sym (opinion (goal.at.returns-in_default c).After-received_bit c.in-Some.bit c.in-Some.ensures ∙ rw (lt-leb _ 1 c.if-bit-le1.false))
+
+pub returns-in_default-2 : goal.returns-in_default-2
+returns-in_default-2 c = sym (opinion (goal.at.returns-in_default-2 c).After-received_bit 3 c.in_default.ensures)

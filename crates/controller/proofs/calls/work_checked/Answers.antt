@@ -1,72 +1,109 @@
 -- `controller::calls::work_checked` meets its contract: the step is that of the state which has heard all senders, and that is the step of the state before;
--- where it is not taken, a sender that does not fit gives 6, and too many heard give 7.
-use Rattle.std.specs.Prelude.{ℕ, Bool, true, false, cond, ◌&&◌, List, [], ◌≡◌, refl}
+-- where it is not taken, a sender that does not fit gives 6, too many heard give 7, and lists that do not fit give 8.
+use Rattle.std.specs.Prelude.{ℕ, ◌≤◌, Bool, true, false, cond, ◌&&◌, List, ◌≡◌, refl}
 use Rattle.std.proofs.Common.{◌∙◌, sym, ap}
-use Rattle.std.proofs.lemmas.Bool.{lt-leb}
-use Rattle.controller.specs.Calls.{Promise}
-use Rattle.controller.specs.Fields.{whole_of, answer_of}
-use Rattle.controller.specs.Laws.State.{rules_heard, sound_rules_lem, since_places}
-use Rattle.controller.specs.Refusals.{lists_fit}
-use Rattle.controller.specs.State.{View, view}
-use Rattle.controller.specs.declared.state.Answer.{Answer}
-use Rattle.controller.specs.declared.state.Fields.{Fields}
+use Rattle.controller.specs.First.{rounds_after}
+use Rattle.controller.specs.Laws.First.{next_stays_sound}
+use Rattle.controller.specs.Laws.Refusals.{tray_accepted}
+use Rattle.controller.specs.Laws.State.{view_stored, rules_heard, sound_rules_lem}
+use Rattle.controller.specs.Rules.{next}
+use Rattle.controller.specs.State.{view, bit_part, state_from, stored_state, sound_rules}
+use Rattle.controller.specs.Refusals.{tray_refusal}
+use Rattle.controller.specs.Work.Calls.{Checked, Sends, SendsState}
+use Rattle.controller.specs.Work.First.{moved_to, Grown}
+use Rattle.controller.specs.Work.Received.{Hears}
+use Rattle.controller.specs.Work.Step.{Makes}
 use Rattle.controller.specs.declared.state.State.{State}
-use Rattle.controller.specs.declared.state.Worked.{Worked}
-use Rattle.wire.specs.Tray.{entries}
-use Rattle.controller.proofs.Heard.{hearing_fits, hearing_ready, hearing_grown, hearing_recorded, hearing_passed, hearing_promised}
-use Rattle.controller.proofs.Promises.{promise_refused, promise_left, promise_worked, tests_left}
+use Rattle.controller.specs.declared.state.Refusal.TheVariants.{BadSender, TooManyHeard, TooManyListed}
+use Rattle.wire.specs.Limits.{max_numbers}
+use Rattle.wire.specs.Numbers.{listed}
+use Rattle.wire.specs.Tray.{entries, well_formed}
+use Rattle.wire.specs.declared.frame.Numbers.{Numbers}
+use Rattle.controller.proofs.Heard.{heard_state, hearing_fits, hearing_ready, hearing_grown, hearing_recorded, made_refusal, made_state, made_heard}
+use Rattle.controller.proofs.Promises.{promise_left, promise_sent, tests_left}
 use Rattle.controller.proofs.calls.work_checked.Goals as goal
-
--- a refusal under 8 leaves places and buffer, so it can be given with the fields f, the places h of those heard before the tray and those of the record, d
-still_left : (t : Bool) {n : ℕ} {v : View} {s : State} {l c e before after : List ℕ} (f : Fields) (h d r : List ℕ) (u w : Worked)
-    → n ≡ cond t 0 8 → (u.refusal ≡ 0 → ⊥)
-    → Promise n v [] s before (answer_of u l c e []) after → w ≡ record { refusal = 8; fields = f; length = 0 }
-    → Promise n v r (whole_of f h s.candidates.at s.echoes.at d) before (answer_of w h c e d) after
-still_left true f h d r u w q z p a = absurd (z (p.number ∙ q))
-still_left false {n} {v} {s} {l} {c} {e} {before} f h d r u w q z p a =
-    let kept : whole_of u.fields l c e [] ≡ s = rw q at p.state in
-    let same : ◌≡◌ {A = Answer} (answer_of w h c e d) _ =
-    ap (λ (x : Worked). answer_of x h c e d) a
-    ∙ (λ i. record { refusal = 8; state = whole_of f h (kept i).candidates.at (kept i).echoes.at d; length = 0 }) in
-    rw (rw q at p.output) (promise_refused n 8 v r _ before (answer_of w h c e d) q refl same)
 
 -- of two tests that do not both hold, the second fails where the first holds
 second_fails : (t u : Bool) → (t && u) ≡ false → t ≡ true → u ≡ false
 second_fails t u both first = rw first at both
 
-pub hear-len-requires : goal.hear-len-requires
-hear-len-requires c = (c.requires.packed, rules_heard _ (sound_rules_lem _ c.requires.sound), refl)
+-- a state with the places p for its record
+abbrev with_record : List ℕ → State → State
+with_record p s = state_from s.own s.round (bit_part s) s.king s.heard s.candidates s.echoes p
 
-pub work_heard-worked-requires : goal.work_heard-worked-requires
-work_heard-worked-requires c =
-    let pre = c.requires in
-    (hearing_ready pre c.hear-len.ensures c.if-len-le-MAX_NUMBERS.true, pre.early, pre.room)
+-- what the step makes of the state that has heard the senders: t, where m says whether its lists fit
+module _ {s : State} {b read f : List ℕ} {n : ℕ} {all : Numbers} {m : Bool} {t : State} (k : Checked s b n)
+    (packed : well_formed b ≡ true) (heard : (read ≡ b) × Hears s.own b (listed s.heard) true all f) (step : Makes (heard_state s all) read m t) where
+  makes : Makes (heard_state s all) b m t
+  makes = rw heard.0 at step
+
+  refusal : tray_refusal s b n ≡ cond m 0 8
+  refusal = made_refusal k packed heard.1 refl makes
+
+  -- where they do not, the list of those heard before gives the state before
+  kept : m ≡ false → heard_state t s.heard ≡ s
+  kept q = ap (λ (u : State). heard_state u s.heard) (makes.kept q)
+
+  module _ (taken : m ≡ true) where
+    passed : tray_refusal s b n ≡ 0
+    passed = refusal ∙ rw taken
+
+    made : t ≡ stored_state (next (view s) (entries b)) s.since
+    made = made_state k packed heard.1 refl makes taken
+
+    listed_heard : t.heard ≡ all
+    listed_heard = made_heard k packed heard.1 refl makes taken
+
+    grown : Grown s.heard t.heard
+    grown = rw listed_heard (hearing_grown k packed heard.1 refl)
+
+    few_echoes : t.echoes.len ≤ max_numbers
+    few_echoes = rw made (tray_accepted s b n passed).0.echoes
+
+    -- with the places p for the record, which is moved
+    module _ {p : List ℕ} (moved : p ≡ moved_to (listed s.heard) (listed t.heard) s.round t.since) where
+      recorded : p ≡ rounds_after s (entries b)
+      recorded =
+          hearing_recorded k packed heard.1 refl
+          (moved ∙ (λ i. moved_to (listed s.heard) (listed (listed_heard i)) s.round (made i).since))
+
+      whole : with_record p t ≡ stored_state (next (view s) (entries b)) (rounds_after s (entries b))
+      whole = ap (with_record p) made ∙ ap (stored_state (next (view s) (entries b))) recorded
+
+      sent : {given left : List ℕ} {l : ℕ} → SendsState (with_record p t) given l left → Sends (next (view s) (entries b)) given l left
+      sent sends =
+          let shown = ap view whole ∙ view_stored _ (rounds_after s (entries b)) in
+          rw shown at (sends (ap sound_rules whole ∙ sound_rules_lem _ (next_stays_sound s b (tray_accepted s b n passed).0)))
+
+pub hear-requires : goal.hear-requires
+hear-requires c = rules_heard _ (sound_rules_lem _ c.requires.sound)
+
+pub step-requires : goal.step-requires
+step-requires c = (rw c.in-Some.ensures.0 (hearing_ready c.requires c.args.tray.packed c.in-Some.ensures.1 refl), c.requires.early)
 
 pub take_over-requires : goal.take_over-requires
-take_over-requires c = (hearing_grown c.requires c.hear-len.ensures c.if-len-le-MAX_NUMBERS.true, since_places _ c.requires.sound)
+take_over-requires c = grown c.requires c.args.tray.packed c.in-Some.ensures c.step.ensures c.if-not-step.false
 
-pub returns-then-worked-eq0 : goal.returns-then-worked-eq0
-returns-then-worked-eq0 c =
-    let over = c.take_over.ensures in
-    rw over.0
-    (promise_worked _ _ _ _ _ _ _ _ _ c.if-worked-eq0.true (hearing_recorded c.requires c.hear-len.ensures c.if-len-le-MAX_NUMBERS.true over.1)
-    (hearing_promised c.requires c.hear-len.ensures c.if-len-le-MAX_NUMBERS.true c.work_heard-worked.ensures))
+pub send-requires : goal.send-requires
+send-requires c = (c.requires.room, few_echoes c.requires c.args.tray.packed c.in-Some.ensures c.step.ensures c.if-not-step.false)
 
-pub returns-else-worked-eq0 : goal.returns-else-worked-eq0
-returns-else-worked-eq0 c =
-    let a = c.args in
-    let s : State = whole_of a.fields a.heard.now a.candidates.now a.echoes.now a.since.now in
-    still_left (lists_fit (view s) (entries a.tray.now)) a.fields a.heard.now a.since.now _ c.work_heard-worked.result c.refused_in_place.result
-    (hearing_passed c.requires c.hear-len.ensures c.if-len-le-MAX_NUMBERS.true) c.if-worked-eq0.false
-    (hearing_promised c.requires c.hear-len.ensures c.if-len-le-MAX_NUMBERS.true c.work_heard-worked.ensures) c.refused_in_place.ensures
+pub returns : goal.returns
+returns c =
+    let taken = c.if-not-step.false in
+    promise_sent _ _ _ (passed c.requires c.args.tray.packed c.in-Some.ensures c.step.ensures taken)
+    (whole c.requires c.args.tray.packed c.in-Some.ensures c.step.ensures taken c.take_over.ensures)
+    (sent c.requires c.args.tray.packed c.in-Some.ensures c.step.ensures taken c.take_over.ensures c.send.ensures)
+
+pub returns-then-not-step : goal.returns-then-not-step
+returns-then-not-step c =
+    promise_left TooManyListed _ (refusal c.requires c.args.tray.packed c.in-Some.ensures c.step.ensures ∙ rw c.if-not-step.true)
+    (kept c.requires c.args.tray.packed c.in-Some.ensures c.step.ensures c.if-not-step.true)
 
 pub returns-then-senders_fit : goal.returns-then-senders_fit
 returns-then-senders_fit c =
     let sent = sym c.senders_fit.ensures ∙ c.if-senders_fit.true in
-    let both = sym (hearing_fits c.requires c.hear-len.ensures) ∙ lt-leb _ _ c.if-len-le-MAX_NUMBERS.false in
-    promise_left _ 7 _ _ _ _ _ _ _ _ _ (tests_left c.requires ∙ rw (sent, second_fails _ _ both sent)) refl c.refused_in_place-then-senders_fit.ensures
+    let both = sym (hearing_fits c.requires c.args.tray.packed c.in_default.ensures) in
+    promise_left TooManyHeard _ (tests_left c.requires c.args.tray.packed ∙ rw (sent, second_fails _ _ both sent)) refl
 
 pub returns-else-senders_fit : goal.returns-else-senders_fit
-returns-else-senders_fit c =
-    promise_left _ 6 _ _ _ _ _ _ _ _ _ (tests_left c.requires ∙ rw (sym c.senders_fit.ensures ∙ c.if-senders_fit.false)) refl
-    c.refused_in_place-else-senders_fit.ensures
+returns-else-senders_fit c = promise_left BadSender _ (tests_left c.requires c.args.tray.packed ∙ rw (sym c.senders_fit.ensures ∙ c.if-senders_fit.false)) refl

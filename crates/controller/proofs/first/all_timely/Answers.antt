@@ -1,37 +1,24 @@
--- `controller::first::all_timely` meets its contract: the latest of those passed and those that are left are timely exactly if all are.
-use Rattle.std.specs.Prelude.{Bool, refl, leb, length, drop}
-use Rattle.std.proofs.Math.Bool.{◌&&◌, and_assoc, and-true}
-use Rattle.std.proofs.Math.Path.{◌≡◌, ◌∙◌}
-use Rattle.std.proofs.Common.{sym, ap, add-one, arith, drop-cons, ℕ, ◌+◌, ◌≤◌, ◌<◌, List, ◌∷◌}
+-- `controller::first::all_timely` meets its contract: the latest of the rounds passed is timely exactly if all of them are.
+use Rattle.std.proofs.Common.{arith, ap, add-one, take-suc, take_all, length, get_or, take, leb, max, ◌&&◌, ◌∙◌, ◌≡◌, ◌+◌, ◌<◌, ℕ, List}
+use Rattle.std.proofs.Math.Bool.{and-true}
 use Rattle.std.proofs.Math.Dec.{leb-suc-suc}
-use Rattle.std.proofs.Math.ListN.{get_or, drop_of_length-le}
+use Rattle.std.proofs.lemmas.Bool.Decides.{nat_tests}
+use Rattle.controller.specs.Laws.Work.First.{timely_append}
 use Rattle.controller.specs.Work.First.{timely}
 use Rattle.controller.proofs.first.all_timely.Goals as goal
 
-module _ (ok : Bool) (s : List ℕ) (i : ℕ) where
-  -- one turn: the place i goes over from those that are left to those passed
-  turn : i < length s → (ok && leb (get_or s i 0) 194 && timely (drop (i + 1) s)) ≡ (ok && timely (drop i s))
-  turn h =
-      let split : drop i s ≡ get_or s i 0 ∷ drop (i + 1) s = rw add-one (drop-cons s i 0 h) in
-      rw (split, leb-suc-suc (get_or s i 0) 194) (and_assoc ok (leb (get_or s i 0) 194) (timely (drop (i + 1) s)))
+-- the later of two is early enough exactly if both are
+later : (x y n : ℕ) → leb (max x y) n ≡ (leb y n && leb x n)
+later x y n = grind (arith, nat_tests)
 
-  -- none is left
-  done : length s ≤ i → (ok && timely (drop i s)) ≡ ok
-  done h = rw (drop_of_length-le s {i = i} h) (and-true ok)
+further : (s : List ℕ) (i last : ℕ) → i < length s → leb last 194 ≡ timely (take i s)
+    → leb (max (get_or s i 0) last) 194 ≡ timely (take (i + 1) s)
+further s i last h e =
+    let x = get_or s i 0 in
+    later x last 194 ∙ rw (e, add-one i, take-suc s i 0, timely_append, and-true, leb-suc-suc x 194)
 
-pub loop-i-init : goal.loop-i-init
-loop-i-init c = record { inside = omega arith; left = refl }
-
-pub loop-i-preserved : goal.loop-i-preserved
-loop-i-preserved c =
-    let last = c.loop-i.last in
-    let rounds = c.args.rounds.now in
-    let i = c.loop-i.i in
-    let later : leb c.later-last.result 194 ≡ (leb last 194 && leb (get_or rounds i 0) 194) = c.later-last.ensures 194 in
-    record {
-      inside = omega arith;
-      left = ap (λ (t : Bool). t && timely (drop (i + 1) rounds)) later ∙ turn (leb last 194) rounds i (omega arith) ∙ c.loop-i.invariant.left;
-    }
+pub loop-round-preserved : goal.loop-round-preserved
+loop-round-preserved c = rw c.max-last.ensures (further c.args.rounds.now _ _ c.loop-round-test.true c.loop-round.invariant)
 
 pub returns : goal.returns
-returns c = sym (done (leb c.loop-i.last 194) c.args.rounds.now c.loop-i.i (omega arith)) ∙ c.loop-i.invariant.left
+returns c = c.loop-round.invariant ∙ ap timely (take_all _ c.args.rounds.now c.loop-round-test.false)

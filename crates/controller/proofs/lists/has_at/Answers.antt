@@ -1,18 +1,14 @@
 -- `controller::lists::has_at` meets its contract: a number is in a rising list exactly if it stands at its place.
-use Rattle.std.specs.Prelude.{ltb, eqb}
-use Rattle.std.proofs.Math.Path.{◌≡◌, ◌∙◌}
-use Rattle.std.proofs.Common.{sym, arith, le-ltb, ℕ, ◌≤◌, ◌<◌}
-use Rattle.std.proofs.Math.ListN.{get_or}
-use Rattle.std.proofs.Math.Seq.{get_or-take}
+use Rattle.std.proofs.Common.{arith, le-ltb, sym, eqb, ltb, get_or, get_or-take, ◌∙◌, ◌≡◌, ◌≤◌, ◌<◌, ℕ}
 use Rattle.wire.specs.Numbers.{listed}
 use Rattle.wire.specs.declared.frame.Numbers.{Numbers}
 use Rattle.controller.specs.Laws.State.{ListTests, sound_list_gives}
 use Rattle.controller.specs.Laws.Work.Lists.{below_finds, below_misses}
 use Rattle.controller.specs.Lists.{mem}
-use Rattle.controller.specs.Work.Lists.{in_places, below}
+use Rattle.controller.specs.Work.Lists.{below}
 use Rattle.controller.proofs.lists.has_at.Goals as goal
 
-module _ (list : Numbers) (x i : ℕ) (tests : ListTests list) (place : i ≡ below x (listed list)) where
+module _ (list : Numbers) (i x : ℕ) (tests : ListTests list) (place : i ≡ below x (listed list)) where
   finds : i < list.len → eqb (get_or list.at i 0) x ≡ mem x (listed list)
   finds h =
       let here : get_or (listed list) i 0 ≡ get_or list.at i 0 = get_or-take list.len list.at i 0 h in
@@ -21,17 +17,10 @@ module _ (list : Numbers) (x i : ℕ) (tests : ListTests list) (place : i ≡ be
   misses : list.len ≤ i → ltb i list.len ≡ mem x (listed list)
   misses h = le-ltb i list.len h ∙ sym (below_misses x (listed list) (omega (arith, tests.used, place)))
 
-pub bounds-at-i : goal.bounds-at-i
-bounds-at-i c =
-    let tests = sound_list_gives (in_places c.args.len c.args.at.now) c.requires.0 in
-    omega (arith, tests.used, tests.list.short)
+pub returns-then-i-list : goal.returns-then-i-list
+returns-then-i-list c =
+    finds c.args.list.now c.args.i c.args.x (sound_list_gives c.args.list.now c.requires.0) c.requires.1 c.if-i-list.true
 
-pub returns-then-i-len : goal.returns-then-i-len
-returns-then-i-len c =
-    let list = in_places c.args.len c.args.at.now in
-    finds list c.args.x c.args.i (sound_list_gives list c.requires.0) c.requires.1 c.if-i-len.true
-
-pub returns-else-i-len : goal.returns-else-i-len
-returns-else-i-len c =
-    let list = in_places c.args.len c.args.at.now in
-    misses list c.args.x c.args.i (sound_list_gives list c.requires.0) c.requires.1 c.if-i-len.false
+pub returns-else-i-list : goal.returns-else-i-list
+returns-else-i-list c =
+    misses c.args.list.now c.args.i c.args.x (sound_list_gives c.args.list.now c.requires.0) c.requires.1 c.if-i-list.false

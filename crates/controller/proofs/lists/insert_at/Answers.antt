@@ -1,15 +1,9 @@
 -- `controller::lists::insert_at` meets its contract: what `open_at` leaves is the stored form of the list with x.
 use Rattle.controller.specs.Laws.State.{sound_list_gives}
 use Rattle.controller.specs.Laws.Work.Lists.{opened_stored}
-use Rattle.controller.specs.Work.Lists.{in_places}
 use Rattle.controller.proofs.lists.insert_at.Goals as goal
-
-pub open_at-requires : goal.open_at-requires
-open_at-requires c =
-    let list = in_places c.args.len c.args.at.now in
-    ((sound_list_gives list c.requires.0).places, c.requires.1, c.requires.2)
 
 pub returns : goal.returns
 returns c =
-    let list = in_places c.args.len c.args.at.now in
+    let list = c.args.list.now in
     opened_stored list c.args.to c.args.x _ (sound_list_gives list c.requires.0).back c.requires.2 c.requires.1 c.open_at.ensures

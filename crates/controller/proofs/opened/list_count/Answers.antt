@@ -1,21 +1,27 @@
 -- `controller::opened::list_count` meets its contract: bytes that are not refused list as many numbers as they count, and what is void lists nothing.
-use Rattle.std.proofs.Common.{List, ℕ, ◌∙◌, ◌≡◌, ◌≢◌, length, sym, eq-eqb, ne_eqb}
-use Rattle.wire.specs.Frame.{content, count_of, read_refusal}
+use Rattle.std.proofs.Common.{List, ℕ, Result, Ok, Err, cond, ◌∙◌, ◌≡◌, length, sym}
+use Rattle.std.specs.Result.{is_ok}
+use Rattle.wire.specs.Frame.{content, count_of, number_checked, read_refusal}
 use Rattle.wire.specs.Laws.Words.{words_length}
 use Rattle.wire.specs.Limits.{frame_header}
+use Rattle.wire.specs.declared.frame.Void.{Void}
+use Rattle.wire.specs.declared.frame.Void.TheVariants.{WrongLength, WrongRound, WrongContent}
 use Rattle.controller.specs.Received.{list_in}
 use Rattle.controller.proofs.opened.list_count.Goals as goal
 
-counted : (s : List ℕ) (t : ℕ) → read_refusal s t ≡ 0 → count_of s ≡ length (list_in (content s t))
+listed : (s : List ℕ) (t : ℕ) (r : Result Unit Void) → number_checked r ≡ read_refusal s t → length (list_in (content s t)) ≡ cond (is_ok r) (count_of s) 0
 unfolding content
-counted s t h = rw (eq-eqb _ _ h) (sym (words_length s frame_header (count_of s)))
+listed s t (Ok u) e = rw (← e) (words_length s frame_header (count_of s))
+listed s t (Err WrongLength) e = rw (← e)
+listed s t (Err WrongRound) e = rw (← e)
+listed s t (Err WrongContent) e = rw (← e)
 
-void : (s : List ℕ) (t : ℕ) → read_refusal s t ≢ 0 → 0 ≡ length (list_in (content s t))
-unfolding content
-void s t h = rw (ne_eqb _ _ h)
+pub returns-then-is_ok : goal.returns-then-is_ok
+returns-then-is_ok c =
+    let is = listed _ _ _ c.check_frame.ensures in
+    c.number_count.ensures ∙ sym (rw (← c.is_ok.ensures.value, c.if-is_ok.true) at is)
 
-pub returns-then-read_refusal-eq0 : goal.returns-then-read_refusal-eq0
-returns-then-read_refusal-eq0 c = c.number_count.ensures ∙ counted _ _ (sym c.read_refusal.ensures ∙ c.if-read_refusal-eq0.true)
-
-pub returns-else-read_refusal-eq0 : goal.returns-else-read_refusal-eq0
-returns-else-read_refusal-eq0 c = void _ _ (λ e. c.if-read_refusal-eq0.false (c.read_refusal.ensures ∙ e))
+pub returns-else-is_ok : goal.returns-else-is_ok
+returns-else-is_ok c =
+    let is = listed _ _ _ c.check_frame.ensures in
+    sym (rw (← c.is_ok.ensures.value, c.if-is_ok.false) at is)

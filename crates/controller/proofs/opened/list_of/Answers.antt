@@ -1,19 +1,20 @@
 -- `controller::opened::list_of` meets its contract: a frame's numbers lie behind its header, in its part of the tray, whose offset is half a word.
-use Rattle.std.proofs.Common.{List, Bool, ℕ, zero, suc, [], true, false, cond, ◌*◌, ◌+◌, ◌<◌, ◌∙◌, ◌≡◌, ◌≤◌, take, drop, refl, sym, ap, leb-true, leb}
+use Rattle.std.proofs.Common.{List, Bool, ℕ, zero, suc, [], true, false, cond, ◌*◌, ◌+◌, ◌<◌, ◌∙◌, ◌≡◌, ◌≤◌, take, drop, refl, sym, ap, subst, leb-true, leb}
 use Rattle.std.proofs.Common.{length, get_or, length-drop, length-take-le, arith}
-use Rattle.std.proofs.Math.Option.{Option, some, none}
+use Rattle.std.specs.Prelude.{Option, Some, None}
 use Rattle.std.proofs.Math.Decide.{dec_lt}
 use Rattle.wire.specs.Frame.{Content, content, count_of}
 use Rattle.wire.specs.Laws.Frame.{read_numbers}
 use Rattle.wire.specs.Laws.Tray.{part_byte}
-use Rattle.wire.specs.Laws.Words.{words_length}
+use Rattle.wire.specs.Laws.Words.{words_below, words_length}
 use Rattle.wire.specs.Limits.{frame_header, number_width}
 use Rattle.wire.specs.Notes.{found_by}
 use Rattle.wire.specs.Laws.Notes.{found_small}
 use Rattle.wire.specs.Tray.{part}
-use Rattle.wire.specs.Words.{words_at}
+use Rattle.wire.specs.Words.{Below, words_at}
 use Rattle.wire.specs.declared.found.Found.TheVariants.{At}
 use Rattle.controller.specs.Received.{read_in, list_in}
+use Rattle.controller.specs.Work.OpenList.{end_mark}
 use Rattle.controller.specs.Work.Opened.{SpanOf}
 use Rattle.controller.specs.Work.Received.{noted}
 use Rattle.controller.proofs.opened.list_of.Goals as goal
@@ -43,13 +44,13 @@ module _ (b : List ℕ) (o n : ℕ) where
 -- the numbers of what is read lie one behind the other from the header's end on, and the bytes hold them all
 numbers_lie : (s : List ℕ) (t n : ℕ) (o : Option Content) → content s t ≡ o → n ≡ length (list_in o)
     → (words_at s frame_header n ≡ list_in o) × (0 < n → frame_header + number_width * n ≤ length s)
-numbers_lie s t n none h e = (rw e, λ l. absurd (omega arith))
-numbers_lie s t n (some c) h e =
+numbers_lie s t n None h e = (rw e, λ l. absurd (omega arith))
+numbers_lie s t n (Some c) h e =
     let read = read_numbers s t c h in
     let same : n ≡ count_of s = e ∙ ap length read.0 ∙ words_length s frame_header (count_of s) in
     (rw same (sym read.0), λ l. omega (arith, same, read.1))
 
-module _ (b : List ℕ) (k t : ℕ) (word : k < 4294967296) where
+module _ (b : List ℕ) (bytes : Below 256 b) (k t : ℕ) (word : k < 4294967296) where
   found : (o n r : ℕ) (s : List ℕ) → found_by k ≡ At o n → s ≡ part b o n → r ≡ length (list_in (content s t))
       → SpanOf b (list_in (read_in t (noted b k))) (o + 8) r
   found o n r s p e read =
@@ -62,13 +63,15 @@ module _ (b : List ℕ) (k t : ℕ) (word : k < 4294967296) where
         | yes h ↦ sym (words_part s b o (rw s-is at (part_byte b o n)) frame_header r (lie h))
         | no h ↦ let none : r ≡ 0 = omega arith in rw none
       ] in
+      let is : words_at b (o + 8) r ≡ list_in (read_in t (noted b k)) = rw (p, s-is) (words ∙ numbers.0) in
       record {
-        is = rw (p, s-is) (words ∙ numbers.0);
+        is = is;
         low = omega arith;
         inside = λ k h. omega (arith, lie (omega arith), size (omega (arith, lie (omega arith))));
+        words = subst (Below end_mark) is (words_below b bytes (o + 8) r);
       }
 
 pub returns-in-At : goal.returns-in-At
 returns-in-At c =
-    let at = sym c.found_by-found.ensures ∙ c.in-At.is in
-    found _ _ _ c.ranges.note.fits _ _ _ _ at c.part_of.ensures c.list_count.ensures
+    let at = sym c.found_by.ensures ∙ c.in-At.is in
+    (found _ (λ i. (c.type_inv.tray i).fits) _ _ c.ranges.note.fits _ _ _ _ at c.part_of.ensures c.list_count.ensures, refl)

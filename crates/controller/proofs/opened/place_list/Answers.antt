@@ -1,35 +1,32 @@
--- `controller::opened::place_list` meets its contract: with no frame the own list is received, which is open; frames with the same bytes have the same list;
--- and a list with the own numbers is the own one. Any other is opened behind the open ones.
-use Rattle.std.proofs.Common.{List, Bool, ℕ, true, cond, ◌∙◌, ◌≡◌, ◌≢◌, refl, true≢false, inl, sym, ap, ne_eqb}
-use Rattle.wire.specs.Found.{Under}
-use Rattle.wire.specs.Notes.{no_frame, found_by, same_frames}
-use Rattle.wire.specs.Laws.Notes.{same_meaning}
-use Rattle.controller.specs.Received.{read_in, list_in}
-use Rattle.controller.specs.Work.Opened.{list_under}
-use Rattle.controller.specs.Work.Received.{noted}
+-- `controller::opened::place_list` meets its contract: a list that is open is counted once more, and another is opened behind the open ones; it rises,
+-- since what is read does, and so does the own list.
+use Rattle.std.proofs.Common.{ℕ, get_or, arith}
+use Rattle.controller.specs.Laws.Work.Opened.{sent_at, counted_adds, counted_again, counted_first, received_sound}
+use Rattle.controller.specs.Laws.Work.Total.{total_has}
+use Rattle.controller.specs.Work.OpenList.{sent_of}
 use Rattle.controller.proofs.opened.place_list.Goals as goal
 
-module _ (round : ℕ) (l b : List ℕ) where
-  -- with a frame its list is received
-  read_under : (k : ℕ) → k ≢ no_frame → list_under round l b k ≡ list_in (read_in round (noted b k))
-  read_under k some = ap (λ (t : Bool). cond t l (list_in (read_in round (noted b k)))) (ne_eqb k no_frame some)
+pub overflow_add-opened : goal.overflow_add-opened
+overflow_add-opened c =
+    let o = c.args.opened.now in
+    let place = c.in-Ok.place in
+    record { fits = omega (arith, sent_at o.lists place, total_has (λ (i : ℕ). get_or (sent_of o.lists) i 0) o.len place c.in-Ok.ensures.0, c.requires.light) }
 
-  -- and with the same bytes the same list
-  same_under : (j k : ℕ) → k ≢ no_frame → same_frames b j k ≡ true → list_under round l b k ≡ list_under round l b j
-  same_under j k some same =
-      let frame : j ≢ no_frame = λ e. true≢false (sym same ∙ ap (λ (i : ℕ). same_frames b i k) e) in
-      read_under k some
-      ∙ ap (λ (u : Under). list_in (read_in round u)) (sym (same_meaning b (found_by j) (found_by k) same))
-      ∙ sym (read_under j frame)
+pub invariant_of-opened : goal.invariant_of-opened
+invariant_of-opened c = record { opens = (counted_again c.args.opened.now c.requires.light c.in-Ok.place c.in-Ok.ensures.0).opens }
 
-pub returns-then-same_frames : goal.returns-then-same_frames
-returns-then-same_frames c =
-    let a = c.args in
-    let recalls = c.requires.recalls in
-    let same : same_frames a.tray.now a.last a.note ≡ true = sym c.same_frames.ensures ∙ c.if-same_frames.true in
-    inl (record {
-      one = recalls.one;
-      same = same_under a.round _ a.tray.now a.last a.note c.if-note-eq-NO_FRAME.false same ∙ sym recalls.same;
-      starts = refl;
-      counts = refl;
-    })
+pub returns-in-Ok : goal.returns-in-Ok
+returns-in-Ok c =
+    rw c.in-Ok.ensures.1 (counted_adds (counted_again c.args.opened.now c.requires.light c.in-Ok.place c.in-Ok.ensures.0) _)
+
+pub invariant_of-opened-in-Err : goal.invariant_of-opened-in-Err
+invariant_of-opened-in-Err c =
+    let o = c.args.opened.now in
+    let h = c.in-Err.ensures in
+    record { opens = (counted_first o c.requires.light c.in-Err.list c.requires.free h.0 h.1 (received_sound o c.args.round c.args.note)).opens }
+
+pub returns-in-Err : goal.returns-in-Err
+returns-in-Err c =
+    let o = c.args.opened.now in
+    let h = c.in-Err.ensures in
+    counted_adds (counted_first o c.requires.light c.in-Err.list c.requires.free h.0 h.1 (received_sound o c.args.round c.args.note)) _

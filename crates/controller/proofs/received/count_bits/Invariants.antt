@@ -1,14 +1,12 @@
 -- `controller::received::count_bits` meets its contract: after j turns the two totals are the counts over the first j of those heard.
 --     counted s b bit x      whether the frame received under x is counted
 --     total s b bit j        those counted among the first j
-use Rattle.std.specs.Prelude.{ℕ, ◌-◌, ◌≤◌, Bool, List, ◌≡◌, take}
-use Rattle.controller.specs.Fields.{state_of}
+use Rattle.std.specs.Prelude.{ℕ, ◌≤◌, Bool, List, ◌≡◌, take}
 use Rattle.controller.specs.Lists.{count_if}
 use Rattle.controller.specs.Received.{says}
-use Rattle.controller.specs.Work.Received.{received_by, Ready}
+use Rattle.controller.specs.Work.Received.{received_by}
 use Rattle.controller.specs.declared.state.State.{State}
 use Rattle.wire.specs.Frame.{kind_of}
-use Rattle.wire.specs.Heads.{Short}
 use Rattle.wire.specs.Numbers.{listed}
 use Rattle.controller.proofs.received.count_bits.Given as goal
 
@@ -18,12 +16,8 @@ counted s b bit x = says (kind_of s.round) bit ((received_by s b).from x)
 abbrev pub total : State → List ℕ → ℕ → ℕ → ℕ
 total s b bit j = count_if (counted s b bit) (take j (listed s.heard))
 
-abbrev pub invariant-loop-j : goal.invariant-loop-j
-invariant-loop-j l = (l.j ≤ l.fields.heard)
-    × (l.zeros ≤ l.j)
-    × (l.ones ≤ l.j)
-    × ((h c e : List ℕ) → Ready (state_of l.fields h c e) l.tray l.notes → Short l.fields.round
-    → (l.zeros ≡ total (state_of l.fields h c e) l.tray 0 l.j) × (l.ones ≡ total (state_of l.fields h c e) l.tray 1 l.j))
-
-abbrev pub decreases-loop-j : goal.decreases-loop-j
-decreases-loop-j l = l.fields.heard - l.j
+abbrev pub invariant-loop-note : goal.invariant-loop-note
+invariant-loop-note l = (l.zeros ≤ l.note-index)
+    × (l.ones ≤ l.note-index)
+    × (l.zeros ≡ total l.state l.noted.tray.now 0 l.note-index)
+    × (l.ones ≡ total l.state l.noted.tray.now 1 l.note-index)

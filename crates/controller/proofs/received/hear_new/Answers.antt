@@ -1,159 +1,125 @@
 -- `controller::received::hear_new` meets its contract: before each entry, those behind it are heard and noted.
-use Rattle.std.specs.Prelude.{ℕ, ◌+◌, ◌-◌, ◌%◌, ◌≤◌, ◌<◌, true, List, ◌≡◌, get_or}
-use Rattle.std.proofs.Common.{inr, sym, ap, subst, ◌∙◌, arith}
+use Rattle.std.specs.Prelude.{ℕ, ◌-◌, ◌≤◌, ◌<◌, List, ◌≡◌, get_or, Ok, Err}
+use Rattle.std.proofs.Common.{sym, ap, subst, ◌∙◌, arith}
 use Rattle.wire.specs.Notes.{note_with}
 use Rattle.wire.specs.Limits.{max_numbers}
 use Rattle.wire.specs.Numbers.{stored, listed}
 use Rattle.wire.specs.Tray.{sender}
 use Rattle.wire.specs.declared.frame.Numbers.{Numbers}
 use Rattle.controller.proofs.Directory.{entry_sent, entry_placed}
-use Rattle.controller.proofs.Found.{known, unknown, its_place, its_place_small}
 use Rattle.controller.proofs.NextEntry.{counted, behind}
 use Rattle.controller.specs.Lists.{In}
-use Rattle.controller.specs.State.{sound_list}
-use Rattle.controller.specs.Laws.Lists.{insert_all_in}
 use Rattle.controller.specs.Laws.State.{sound_list_gives}
 use Rattle.controller.specs.Laws.Work.Hears.{known_short, hears_known, hears_new, hears_all, hears_own, hears_zero, hears_full}
-use Rattle.controller.specs.Laws.Work.Moved.{grown_same}
-use Rattle.controller.specs.Work.First.{Grown}
-use Rattle.controller.specs.Work.Lists.{in_places, below, absent, found_in, inserted_at, opened}
-use Rattle.controller.specs.Work.Received.{senders_from, HearsFrom}
-use Rattle.controller.proofs.received.hear_new.Goals.{After-find_near-found, then-found-lt-ABSENT, else-found-lt-ABSENT+else-x-eq0+else-n-ge-MAX_NUMBERS}
+use Rattle.controller.specs.Laws.Work.Lists.{below_length, found_known, found_unknown}
+use Rattle.controller.specs.Work.Lists.{below, found_in, inserted_at, opened}
+use Rattle.controller.specs.Work.Received.{HearsFrom}
+use Rattle.controller.proofs.received.hear_new.Goals.{After-find_near, in-Ok, in-Err+else-sender-eq0+else-heard-ge-MAX_NUMBERS}
+use Rattle.controller.proofs.received.hear_new.Goals.{then-sender-eq0-via-then-sender-eq0, then-sender-eq0-via-else-sender-eq0+then-heard-ge-MAX_NUMBERS}
 use Rattle.controller.proofs.received.hear_new.Goals as goal
 
 -- the sender that is read, and what is found of it among those heard
-module _ (c : After-find_near-found) where
-  abbrev heard : Numbers
-  heard = in_places c.loop-i.n c.loop-i.heard
+module _ (c : After-find_near) where
+  abbrev among : List ℕ
+  among = listed c.loop-i.heard
 
   abbrev who : ℕ
-  who = sender c.args.tray.now (c.loop-i.i - 1)
+  who = sender c.args.tray.bytes.now (c.loop-i.i - 1)
 
-  abbrev result : ℕ
-  result = c.find_near-found.result
-
-  sender_read : c.entry_sender-x.result ≡ who
-  sender_read = entry_sent _ c.directory-entries.ensures _ _ c.entry_sender-x.ensures
-
-  found : result ≡ found_in who (listed heard)
-  found = c.find_near-found.ensures ∙ ap (λ (x : ℕ). found_in x (listed heard)) sender_read
+  sender_read : c.entry_sender-sender.result ≡ who
+  sender_read = entry_sent _ c.directory-entries.ensures _ _ c.entry_sender-sender.ensures
 
   other : who ≡ c.args.own → ⊥
-  other e = c.if-x-own.false (sender_read ∙ e)
+  other e = c.if-sender-own.false (sender_read ∙ e)
 
-  who_known : result < absent → In who (listed heard)
-  who_known = known heard c.loop-i.invariant.sound who result found
+  known : (p : ℕ) → Ok p ≡ found_in c.entry_sender-sender.result among → In who among × (p ≡ below who among)
+  known p found = found_known who p among (found ∙ ap (λ (x : ℕ). found_in x among) sender_read)
 
-  who_unknown : absent ≤ result → ¬ In who (listed heard)
-  who_unknown = unknown heard c.loop-i.invariant.sound who result found
-
-  its : result % absent ≡ below who (listed heard)
-  its = its_place heard c.loop-i.invariant.sound who result found
+  unknown : (p : ℕ) → Err p ≡ found_in c.entry_sender-sender.result among → (¬ In who among) × (p ≡ below who among)
+  unknown p found = found_unknown who p among (found ∙ ap (λ (x : ℕ). found_in x among) sender_read)
 
   -- a known sender's place is one of 64
-  inside : result < absent → result % absent < max_numbers
-  inside h =
-      let short = known_short (counted c.loop-i.invariant c.loop-i-test.true) (behind c.loop-i.invariant c.loop-i-test.true) (who_known h) in
-      let was = sound_list_gives heard c.loop-i.invariant.sound in
-      omega (arith, its, short, was.list.short)
+  inside : (p : ℕ) → Ok p ≡ found_in c.entry_sender-sender.result among → p < max_numbers
+  inside p found =
+      let it = known p found in
+      let short = known_short (counted c.loop-i.invariant c.loop-i-test.true) (behind c.loop-i.invariant c.loop-i-test.true) it.0 in
+      let was = sound_list_gives c.loop-i.heard c.loop-i.invariant.sound in
+      omega (arith, it.1, short, was.list.short)
 
   -- a new sender's is no further than those heard
-  small : result % absent ≤ c.loop-i.n
-  small = its_place_small heard c.loop-i.invariant.sound who result found
-
--- a refusal says nothing of the places: not so many can have been heard before
-refuses : (n : Numbers) → sound_list n ≡ true → {at before : List ℕ} → max_numbers + 1 ≤ n.len → at ≡ before
-refuses n sound many =
-    let was = sound_list_gives n sound in
-    absurd (omega (arith, was.used, was.list.short))
+  small : (p : ℕ) → Err p ≡ found_in c.entry_sender-sender.result among → (p ≤ c.loop-i.heard.len) × (c.loop-i.heard.len ≤ max_numbers)
+  small p found =
+      let was = sound_list_gives c.loop-i.heard c.loop-i.invariant.sound in
+      (omega (arith, (unknown p found).1, below_length who among, was.used), omega (arith, was.used, was.list.short))
 
 -- the same in hand
-moved : {own : ℕ} {b l : List ℕ} {list : Numbers} {f : List ℕ} {i : ℕ} → HearsFrom own b l list f i
-    → (n : ℕ) (at g : List ℕ) → n ≡ list.len → at ≡ list.at → g ≡ f → HearsFrom own b l (in_places n at) g i
-moved h n at g size places notes = rw (size, places, notes) h
+moved : {own : ℕ} {b l : List ℕ} {n : Numbers} {f : List ℕ} {i : ℕ} → HearsFrom own b l n f i → (m : Numbers) (g : List ℕ) → m ≡ n → g ≡ f
+    → HearsFrom own b l m g i
+moved h m g list notes = rw (list, notes) h
 
--- where they are no more than before, nobody is new
-same_places : {own : ℕ} {b : List ℕ} {before after : Numbers} {f : List ℕ} {i : ℕ} → sound_list before ≡ true
-    → HearsFrom own b (listed before) after f i → after.len ≤ before.len → after.at ≡ before.at
-same_places {b = b} {before = before} {after = after} {i = i} sound so_far few =
-    let grown : Grown before after =
-    record {
-      fewer = sound;
-      more = so_far.sound;
-      inside = λ x j. subst (In x) (sym so_far.heard) ((insert_all_in (senders_from b i) (listed before)).1 (inr j));
-    } in
-    ap (λ (m : Numbers). m.at) (grown_same before after grown few)
+pub returns-then-sender-own : goal.returns-then-sender-own
+returns-then-sender-own c =
+    let read = entry_sent _ c.directory-entries.ensures _ _ c.entry_sender-sender.ensures in
+    hears_own _ _ _ (c.loop-i.i - 1) _ _ (counted c.loop-i.invariant c.loop-i-test.true) (sym read ∙ c.if-sender-own.true)
 
-pub returns-then-x-own : goal.returns-then-x-own
-returns-then-x-own c =
-    let read = entry_sent _ c.directory-entries.ensures _ _ c.entry_sender-x.ensures in (
-      hears_own _ _ _ (c.loop-i.i - 1) _ _ (counted c.loop-i.invariant c.loop-i-test.true) (sym read ∙ c.if-x-own.true),
-      refuses (in_places c.args.len c.args.heard.now) c.requires.1.sound,
-    )
+pub offset_bounds-notes-at : goal.offset_bounds-notes-at
+offset_bounds-notes-at c = omega (arith, inside (goal.at.offset_bounds-notes-at c).After-find_near c.in-Ok.at c.in-Ok.ensures)
 
-pub offset_bounds-notes-j : goal.offset_bounds-notes-j
-offset_bounds-notes-j c = omega (arith, inside (goal.at.offset_bounds-notes-j c).After-find_near-found c.if-found-lt-ABSENT.true)
+pub bounds-notes-at : goal.bounds-notes-at
+bounds-notes-at c = inside (goal.at.bounds-notes-at c).After-find_near c.in-Ok.at c.in-Ok.ensures
 
-pub bounds-notes-j : goal.bounds-notes-j
-bounds-notes-j c = inside (goal.at.bounds-notes-j c).After-find_near-found c.if-found-lt-ABSENT.true
+pub offset_bounds-notes-at-in-Ok : goal.offset_bounds-notes-at-in-Ok
+offset_bounds-notes-at-in-Ok c = omega (arith, inside (goal.at.offset_bounds-notes-at-in-Ok c).After-find_near c.in-Ok.at c.in-Ok.ensures)
 
-pub offset_bounds-notes-j-then-found-lt-ABSENT : goal.offset_bounds-notes-j-then-found-lt-ABSENT
-offset_bounds-notes-j-then-found-lt-ABSENT c =
-    omega (arith, inside (goal.at.offset_bounds-notes-j-then-found-lt-ABSENT c).After-find_near-found c.if-found-lt-ABSENT.true)
+pub bounds-notes-at-in-Ok : goal.bounds-notes-at-in-Ok
+bounds-notes-at-in-Ok c = inside (goal.at.bounds-notes-at-in-Ok c).After-find_near c.in-Ok.at c.in-Ok.ensures
 
-pub bounds-notes-j-then-found-lt-ABSENT : goal.bounds-notes-j-then-found-lt-ABSENT
-bounds-notes-j-then-found-lt-ABSENT c = inside (goal.at.bounds-notes-j-then-found-lt-ABSENT c).After-find_near-found c.if-found-lt-ABSENT.true
-
-pub returns-then-x-eq0 : goal.returns-then-x-eq0
-returns-then-x-eq0 c =
-    let read = sender_read (goal.at.returns-then-x-eq0 c).After-find_near-found in (
-      hears_zero _ _ _ (c.loop-i.i - 1) _ _ (counted c.loop-i.invariant c.loop-i-test.true) (sym read ∙ c.if-x-eq0.true),
-      refuses (in_places c.args.len c.args.heard.now) c.requires.1.sound,
-    )
-
-pub returns-then-n-ge-MAX_NUMBERS : goal.returns-then-n-ge-MAX_NUMBERS
-returns-then-n-ge-MAX_NUMBERS c =
-    let so_far = c.loop-i.invariant in
-    let test = c.loop-i-test.true in
-    let out = who_unknown (goal.at.returns-then-n-ge-MAX_NUMBERS c).After-find_near-found c.if-found-lt-ABSENT.false in (
-      hears_full (counted so_far test) (behind so_far test) out c.if-n-ge-MAX_NUMBERS.true _ _,
-      refuses (in_places c.args.len c.args.heard.now) c.requires.1.sound,
-    )
-
-pub insert_at-requires : goal.insert_at-requires
-insert_at-requires c = (c.loop-i.invariant.sound, small (goal.at.insert_at-requires c).After-find_near-found, c.if-n-ge-MAX_NUMBERS.false)
+pub returns-then-sender-eq0 : goal.returns-then-sender-eq0
+returns-then-sender-eq0 c =
+    let near = (goal.at.returns-then-sender-eq0 c).After-find_near in
+    let so_far = behind c.loop-i.invariant c.loop-i-test.true in
+    let there = counted c.loop-i.invariant c.loop-i-test.true in
+    elim c.then-sender-eq0.branch [
+      | then-sender-eq0-via-then-sender-eq0 w ↦ hears_zero _ _ _ (c.loop-i.i - 1) _ _ there (sym (sender_read near) ∙ w.if-sender-eq0.true)
+      | then-sender-eq0-via-else-sender-eq0+then-heard-ge-MAX_NUMBERS w ↦
+          hears_full there so_far (unknown near c.in-Err.at c.in-Err.ensures).0 w.if-heard-ge-MAX_NUMBERS.true _ _
+    ]
 
 pub open_at-requires : goal.open_at-requires
-open_at-requires c = (c.loop-i.invariant.places, small (goal.at.open_at-requires c).After-find_near-found, c.if-n-ge-MAX_NUMBERS.false)
+open_at-requires c = ((small (goal.at.open_at-requires c).After-find_near c.in-Err.at c.in-Err.ensures).0, c.if-heard-ge-MAX_NUMBERS.false)
+
+pub overflow_add-next : goal.overflow_add-next
+overflow_add-next c =
+    let near = (goal.at.overflow_add-next c).After-find_near in
+    elim c.match-find_near.branch [
+      | in-Ok w ↦ omega (arith, inside near w.in-Ok.at w.in-Ok.ensures)
+      | in-Err+else-sender-eq0+else-heard-ge-MAX_NUMBERS w ↦ omega (arith, small near w.in-Err.at w.in-Err.ensures)
+    ]
 
 pub loop-i-preserved : goal.loop-i-preserved
 loop-i-preserved c =
-    let near = (goal.at.loop-i-preserved c).After-find_near-found in
-    let b = c.args.tray.now in
+    let near = (goal.at.loop-i-preserved c).After-find_near in
+    let b = c.args.tray.bytes.now in
     let v = c.loop-i in
-    let p = c.find_near-found.result % absent in
+    let join = c.match-find_near in
     let so_far = behind v.invariant c.loop-i-test.true in
     let there = counted v.invariant c.loop-i-test.true in
-    let join = c.if-found-lt-ABSENT in
+    let placed = entry_placed b c.directory-entries.ensures _ _ c.entry_place-place.ensures in
     elim join.branch [
-      | then-found-lt-ABSENT w ↦
-          let placed = entry_placed b c.directory-entries.ensures _ _ w.entry_place.ensures in
-          let noted = w.note_with.ensures ∙ ap (note_with b (get_or v.notes p 0)) placed in
-          moved (hears_known there so_far (who_known near w.if-found-lt-ABSENT.true) (other near) p w.note_with.result (its near) noted)
-          join.n join.heard join.notes w.n-is w.heard-is w.notes-is
-      | else-found-lt-ABSENT+else-x-eq0+else-n-ge-MAX_NUMBERS w ↦
-          let longer = w.insert_at.ensures ∙ ap (λ (x : ℕ). stored (inserted_at p x (listed (heard near)))) (sender_read near) in
-          let placed = entry_placed b c.directory-entries.ensures _ _ w.entry_place-else-found-lt-ABSENT.ensures in
-          let opens = w.open_at.ensures ∙ ap (λ (k : ℕ). opened p k v.n v.notes) placed in
-          moved (hears_new there so_far (who_unknown near w.if-found-lt-ABSENT.false) p (its near) w.if-n-ge-MAX_NUMBERS.false
-          (λ z. w.if-x-eq0.false (sender_read near ∙ z)) (other near) _ longer w.open_at.new.at opens)
-          join.n join.heard join.notes w.n-is w.heard-is w.notes-is
+      | in-Ok w ↦
+          let it = known near w.in-Ok.at w.in-Ok.ensures in
+          let noted = w.note_with.ensures ∙ ap (note_with b (get_or v.notes w.in-Ok.at 0)) placed in
+          moved (hears_known there so_far it.0 (other near) w.in-Ok.at w.note_with.result it.1 noted) join.heard join.notes w.heard-is w.notes-is
+      | in-Err+else-sender-eq0+else-heard-ge-MAX_NUMBERS w ↦
+          let it = unknown near w.in-Err.at w.in-Err.ensures in
+          let longer = w.insert_at.ensures ∙ ap (λ (x : ℕ). stored (inserted_at w.in-Err.at x (listed v.heard))) (sender_read near) in
+          let opens = w.open_at.ensures ∙ ap (λ (k : ℕ). opened w.in-Err.at k v.heard.len v.notes) placed in
+          hears_new there so_far it.0 w.in-Err.at it.1 w.if-heard-ge-MAX_NUMBERS.false (λ z. w.if-sender-eq0.false (sender_read near ∙ z)) (other near)
+          join.heard (w.heard-is ∙ longer) join.notes (w.notes-is ∙ opens)
     ]
 
 pub returns : goal.returns
 returns c =
     let v = c.loop-i in
-    let end : v.i ≡ 0 = omega arith in (
-      hears_all c.requires.0 (λ i. (c.type_inv.tray i).fits) (subst (HearsFrom _ _ _ (in_places v.n v.heard) v.notes) end v.invariant),
-      same_places c.requires.1.sound v.invariant,
-    )
+    let end : v.i ≡ 0 = omega arith in
+    hears_all c.args.tray.packed (subst (HearsFrom _ _ _ v.heard v.notes) end v.invariant)

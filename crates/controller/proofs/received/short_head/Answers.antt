@@ -1,26 +1,17 @@
 -- `controller::received::short_head` meets its contract: a frame of eight bytes says a bit exactly if it is the header with that bit, and any other is void.
 use Rattle.std.specs.Prelude.{ℕ, ◌/◌, ◌%◌, Bool, true, false, cond, List, ◌≢◌, ◌≡◌, refl, eqb}
-use Rattle.std.proofs.Common.{ap, arith, eq-eqb, ne_eqb}
-use Rattle.std.proofs.Math.Decide.{ℕ_discrete}
+use Rattle.std.proofs.Common.{ap, arith, ne_eqb}
 use Rattle.wire.specs.Found.{meaning}
 use Rattle.wire.specs.Frame.{content, bit_in}
 use Rattle.wire.specs.Heads.{Short, head_from, head_of}
 use Rattle.wire.specs.Laws.Heads.{short_says, long_void}
 use Rattle.wire.specs.Limits.{frame_header}
-use Rattle.wire.specs.Notes.{no_frame}
 use Rattle.wire.specs.Tray.{part}
 use Rattle.wire.specs.Words.{Below}
 use Rattle.wire.specs.declared.found.Found.TheVariants.{At, Several}
 use Rattle.controller.specs.Received.{read_in}
 use Rattle.controller.specs.Work.Received.{bit_under, Votes}
 use Rattle.controller.proofs.received.short_head.Goals as goal
-
--- two headers of a round are the same if they say the same
-same_head : (t d bit : ℕ) → eqb (head_of t d) (head_of t bit) ≡ eqb d bit
-same_head t d bit = elim (ℕ_discrete d bit) [
-  | yes e ↦ rw (eq-eqb d bit e, eq-eqb (head_of t d) (head_of t bit) (omega arith))
-  | no n ↦ rw (ne_eqb d bit n, ne_eqb (head_of t d) (head_of t bit) (λ e. n (omega arith)))
-]
 
 module _ (b : List ℕ) (k d t : ℕ) (short : Short t) (there : k ≢ 0) where
   -- several frames, or one that is not of eight bytes
@@ -41,13 +32,6 @@ module _ (b : List ℕ) (k d t : ℕ) (short : Short t) (there : k ≢ 0) where
       let one_frame : bit_under t d b k ≡ bit_in (content (part b (k / 65536) frame_header) t) =
       rw (ne_eqb k 0 there, ne_eqb k 1 (λ e. omega arith), eight) in
       rw (read, one_frame) (short_says b (k / 65536) t bit bytes short l)
-
--- who has no entry says what oneself says
-pub returns-then-note-eq-NO_FRAME : goal.returns-then-note-eq-NO_FRAME
-returns-then-note-eq-NO_FRAME c t d short own bit l =
-    let quiet : c.args.note ≡ no_frame = c.if-note-eq-NO_FRAME.true in
-    let answer : eqb c.args.own (head_of t bit) ≡ eqb d bit = rw own (same_head t d bit) in
-    rw (eq-eqb _ _ quiet) answer
 
 pub returns-then-note-ne-FRAME_HEADER : goal.returns-then-note-ne-FRAME_HEADER
 returns-then-note-ne-FRAME_HEADER c t d short own = no_vote _ _ d t short c.if-note-eq-NO_FRAME.false c.if-note-ne-FRAME_HEADER.true

@@ -1,14 +1,12 @@
 -- `controller::rotation::roster` meets its contract: after j turns the list has those of the first j heard that sent init.
 --     sent_init s b x      whether x sent init
 --     senders s b j        those of the first j heard that did
-use Rattle.std.specs.Prelude.{ℕ, ◌-◌, ◌≤◌, Bool, List, ◌≡◌, take}
-use Rattle.controller.specs.Fields.{state_of}
+use Rattle.std.specs.Prelude.{ℕ, ◌≤◌, Bool, List, ◌≡◌, take}
 use Rattle.controller.specs.Lists.{keep}
 use Rattle.controller.specs.Received.{says}
-use Rattle.controller.specs.Work.Lists.{in_places}
-use Rattle.controller.specs.Work.Received.{received_by, Ready}
+use Rattle.controller.specs.Work.Received.{received_by}
 use Rattle.controller.specs.declared.state.State.{State}
-use Rattle.wire.specs.Frame.{kind_of}
+use Rattle.wire.specs.Limits.{max_numbers}
 use Rattle.wire.specs.Numbers.{stored, listed}
 use Rattle.controller.proofs.rotation.roster.Given as goal
 
@@ -19,10 +17,4 @@ abbrev pub senders : State → List ℕ → ℕ → List ℕ
 senders s b j = keep (sent_init s b) (take j (listed s.heard))
 
 abbrev pub invariant-loop-j : goal.invariant-loop-j
-invariant-loop-j l = (l.j ≤ l.fields.heard)
-    × (l.k ≤ l.j)
-    × ((c e : List ℕ) → Ready (state_of l.fields l.heard c e) l.tray l.notes → kind_of l.fields.round ≡ 1
-    → in_places l.k l.list ≡ stored (senders (state_of l.fields l.heard c e) l.tray l.j))
-
-abbrev pub decreases-loop-j : goal.decreases-loop-j
-decreases-loop-j l = l.fields.heard - l.j
+invariant-loop-j l = (l.j-end ≤ max_numbers) × (l.list.len ≤ l.j) × (l.list ≡ stored (senders l.state l.noted.tray.now l.j))

@@ -1,14 +1,8 @@
--- `controller::sound::zero_places` meets its contract: after i turns the total is the count over the first i places.
-use Rattle.std.proofs.Common.{◌-◌, ◌≤◌}
-use Rattle.std.proofs.Math.Path.{◌≡◌}
-use Rattle.std.specs.Prelude.{take}
-use Rattle.wire.specs.Limits.{max_numbers}
+-- `controller::sound::zero_places` meets its contract: after some turns the total is the count over the places passed.
+use Rattle.std.proofs.Common.{◌≡◌, take}
 use Rattle.controller.specs.Lists.{count_if}
 use Rattle.controller.specs.Work.First.{is_zero}
 use Rattle.controller.proofs.sound.zero_places.Given as goal
 
-abbrev pub invariant-loop-i : goal.invariant-loop-i
-invariant-loop-i l = record { inside : l.i ≤ max_numbers; counted : l.zeros ≡ count_if is_zero (take l.i l.at) }
-
-abbrev pub decreases-loop-i : goal.decreases-loop-i
-decreases-loop-i l = max_numbers - l.i
+abbrev pub invariant-loop-number : goal.invariant-loop-number
+invariant-loop-number l = l.zeros ≡ count_if is_zero (take l.number-index l.at)

@@ -1,12 +1,9 @@
--- `controller::step::make_value` meets its contract: the lists have grown, and the bit is the one taken.
-use Rattle.controller.specs.Laws.State.{rules_heard}
+-- `controller::step::make_value` meets its contract: the lists have grown, and the bit is the one taken; lists that do not fit leave the state as it was.
+use Rattle.controller.specs.Laws.Work.Step.{value_made, value_refused}
 use Rattle.controller.proofs.step.make_value.Goals as goal
 
-pub bit_taken-bit-requires : goal.bit_taken-bit-requires
-bit_taken-bit-requires c = rules_heard _ c.requires.0.sound
+pub returns-then-not-grow : goal.returns-then-not-grow
+returns-then-not-grow c = value_refused c.requires.0 c.requires.1 c.grow.ensures c.if-not-grow.true
 
 pub returns : goal.returns
-returns c =
-    let pre = c.requires in
-    c.grown.ensures _ _ _ _ _ _
-    (record { ready = pre.0; kind = pre.1; taken = c.bit_taken-bit.ensures _ _ pre.0 pre.1; lists = c.grow-lists.ensures })
+returns c = value_made c.requires.0 c.requires.1 c.grow.ensures _ _ c.if-not-grow.false c.bit_taken-bit.ensures c.name_king.ensures

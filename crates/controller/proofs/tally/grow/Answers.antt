@@ -1,9 +1,9 @@
--- `controller::tally::grow` meets its contract: the lists made along the received ones are those of the rules; if one is too long, the state keeps its own.
+-- `crate::tally::grow` meets its contract: the lists made along the received ones are those of the rules; if one is too long, the state keeps its own.
 use Rattle.controller.specs.Laws.Work.Grow.{sorted_grows, crowded_keeps}
 use Rattle.controller.proofs.tally.grow.Goals as goal
 
-pub returns-then-settled : goal.returns-then-settled
-returns-then-settled c = sorted_grows _ _ c.requires.sound c.tally-settled.ensures c.if-settled.true
+pub returns-in_default : goal.returns-in_default
+returns-in_default c = crowded_keeps _ _ c.requires.sound c.in_default.ensures
 
-pub returns-else-settled : goal.returns-else-settled
-returns-else-settled c = rw c.no_room.ensures (crowded_keeps _ _ c.requires.sound c.tally-settled.ensures c.if-settled.false)
+pub returns : goal.returns
+returns c = sorted_grows _ _ c.requires.sound c.in-Some.settled c.in-Some.ensures

@@ -1,68 +1,55 @@
--- `controller::tally::settle_all` meets its contract: each turn settles the least number left, so that all are settled when the lists have ended.
-use Rattle.std.specs.Prelude.{ℕ, ◌+◌, ◌/◌, ◌≤◌, true, List, ◌≡◌, length, get_or, take}
+-- `crate::tally::settle_all` meets its contract: each turn settles the least number left, so that all are settled when the lists have ended.
+use Rattle.std.specs.Prelude.{ℕ, ◌+◌, ◌/◌, ◌≤◌, get_or}
 use Rattle.std.proofs.Common.{sym, arith}
-use Rattle.controller.specs.Laws.Work.Walk.{settles_none, settles_crowd, Walking, walking_on, walking_end}
+use Rattle.wire.specs.Numbers.{listed}
+use Rattle.controller.specs.Laws.Work.Walk.{settles_none, Walking, walking_on, walking_end}
 use Rattle.controller.specs.Laws.Work.Weights.{weighed_most, weighed_positive}
-use Rattle.controller.specs.Work.Heads.{slots, Roomy, Passes, LinesUp}
-use Rattle.controller.specs.Work.Opened.{weighed}
-use Rattle.controller.specs.Work.Tally.{Settleable, SettlesNext, SettlesOn, Walkable}
+use Rattle.controller.specs.Work.Heads.{slots, PassesIn}
+use Rattle.controller.specs.Work.Opened.{weighed_in}
+use Rattle.controller.specs.Work.Tally.{Settleable, Settles, Startable}
+use Rattle.controller.specs.declared.heads.Heads.{Heads}
 use Rattle.controller.specs.declared.heads.Passed.{Passed}
+use Rattle.controller.specs.declared.open_list.OpenLists.{OpenLists}
 use Rattle.controller.specs.declared.tally.Settled.{Settled}
 use Rattle.controller.proofs.tally.settle_all.Goals as goal
 
--- room keeps its sizes
-same_room : {t p i u q j : List ℕ} → Roomy t p i → length u ≡ length t → length q ≡ length p → length j ≡ length i → Roomy u q j
-same_room room tree nexts places =
-    record { tree = omega (arith, room.tree); nexts = omega (arith, room.nexts); places = omega (arith, room.places) }
+-- the turn of the first key f
+module _ {o : OpenLists} {h : ℕ} {start : Settled} (pre : Startable start h) {g : Heads} {q : Settled} {f : ℕ}
+    (at : Walking o h (listed start.candidates) g q f) {passed : Passed} (u : Heads) (passes : PassesIn o (f / slots) passed u)
+  where
+    due : Settleable q (f / slots) passed.count h
+    due = record {
+      echoes = at.settles.echoes.sound;
+      candidates = at.settles.candidates.sound;
+      place = at.settles.place;
+      few = omega (arith, passes.0.count, weighed_most _ _ _ _ _ _ o.opens (f / slots));
+      most = pre.most;
+      some = pre.some;
+      positive = λ some. weighed_positive _ _ _ _ _ _ o.opens (f / slots) (omega (arith, passes.0.count, some));
+    }
 
-module _ {own b starts counts sent : List ℕ} {m h known : ℕ} {given k : List ℕ} (pre : Walkable own b starts counts sent m h known given k) where
-  begins : {t p i : List ℕ} → Roomy t p i → LinesUp own b starts counts m t p i
-      → Walking own b starts counts sent m h (take known k) t p i given k
-      (record { echoed = 0; candidates = known; place = 0; fits = true }) (get_or t 1 0)
-  begins {t} {p} {i} room lined =
-      walking_on own b starts counts sent m h (take known k) pre.opens pre.some 0 t p i given k _ room lined.0 lined.1
-      (settles_none (weighed own b starts counts sent m) h known given k pre.empty pre.candidates) (omega arith)
-
-  -- the turn of the first key f
-  module _ {t p i e c : List ℕ} {q : Settled} {f : ℕ} (at : Walking own b starts counts sent m h (take known k) t p i e c q f)
-      {passed : Passed} {u n j : List ℕ} (passes : Passes own b starts counts sent m (f / slots) passed u n j)
-    where
-      due : Settleable q (f / slots) passed.count h e c
-      due = record {
-        echoes = at.settles.echoes.sound;
-        candidates = at.settles.candidates.sound;
-        place = at.settles.place;
-        few = omega (arith, passes.count, weighed_most own b starts counts sent m pre.opens (f / slots));
-        most = pre.most;
-        some = pre.some;
-        positive = λ some. weighed_positive own b starts counts sent m pre.opens (f / slots) (omega (arith, passes.count, some));
-      }
-
-      module _ {d l : List ℕ} {r : Settled} (next : SettlesNext q (f / slots) passed.count h e c r d l) where
-        turn : SettlesOn (weighed own b starts counts sent m) h (take known k) (f / slots) d l r
-        turn = next (weighed own b starts counts sent m) (take known k) (sym passes.count) at.settles
-
-        goes_on : Roomy u n j → r.fits ≡ true → Walking own b starts counts sent m h (take known k) u n j d l r passed.first
-        goes_on room fits =
-            let later : f / slots + 1 ≤ get_or u 1 0 / slots = omega (arith, passes.later, passes.first) in
-            rw passes.first
-            (walking_on own b starts counts sent m h (take known k) pre.opens pre.some (f / slots + 1) u n j d l r room
-            passes.ordered passes.standing (turn.settled fits) later)
+    goes_on : {r : Settled} → Settles (weighed_in o) h (listed start.candidates) (f / slots + 1) r → Walking o h (listed start.candidates) u r passed.first
+    goes_on settled =
+        let later : f / slots + 1 ≤ get_or u.tree 1 0 / slots = omega (arith, passes.0.later, passes.0.first) in
+        rw passes.0.first
+        (walking_on o h (listed start.candidates) pre.some (f / slots + 1) u _ passes.1 passes.0.ordered passes.0.standing settled later)
 
 pub loop-key-init : goal.loop-key-init
-loop-key-init c = begins c.requires.0 (same_room c.requires.1 c.line_up.auto.tree c.line_up.auto.nexts c.line_up.auto.at) c.line_up.ensures
+loop-key-init c =
+    let lined = c.line_up-heads.ensures in
+    walking_on _ _ _ c.requires.some 0 _ _ lined.room lined.ordered lined.standing (settles_none _ c.requires) (omega arith)
 
-pub settle-settled-requires : goal.settle-settled-requires
-settle-settled-requires c = due c.requires.0 c.loop-key.invariant c.pass-passed.ensures
+pub settle-requires : goal.settle-requires
+settle-requires c = due c.requires c.loop-key.invariant _ c.pass-passed.ensures
 
 pub loop-key-preserved : goal.loop-key-preserved
 loop-key-preserved c =
-    goes_on c.requires.0 c.loop-key.invariant c.pass-passed.ensures c.settle-settled.ensures
-    (same_room c.loop-key.invariant.room c.pass-passed.auto.tree c.pass-passed.auto.nexts c.pass-passed.auto.at) c.if-settled.true
+    goes_on c.requires c.loop-key.invariant _ c.pass-passed.ensures
+    (c.in_ok-settle.ensures _ _ (sym c.pass-passed.ensures.0.count) c.loop-key.invariant.settles)
 
-pub returns-in-loop-key : goal.returns-in-loop-key
-returns-in-loop-key c =
-    settles_crowd _ _ _ _ (turn c.requires.0 c.loop-key.invariant c.pass-passed.ensures c.settle-settled.ensures) c.if-settled.false
+pub returns-in_err-settle : goal.returns-in_err-settle
+returns-in_err-settle c =
+    rw c.from_residual.ensures (c.in_err-settle.ensures _ _ (sym c.pass-passed.ensures.0.count) c.loop-key.invariant.settles)
 
 pub returns : goal.returns
-returns c = walking_end _ _ _ _ _ _ _ _ c.requires.0.opens c.requires.0.some c.loop-key.invariant c.loop-key-test.false
+returns c = walking_end _ _ _ c.requires.some c.loop-key.invariant c.loop-key-test.false

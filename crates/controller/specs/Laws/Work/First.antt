@@ -3,6 +3,7 @@ use Rattle.std.specs.Prelude.{ℕ, zero, suc, ◌+◌, ◌-◌, ◌≤◌, ◌<�
 use Rattle.std.specs.Prelude.{get_or, take, drop, replicate}
 use Rattle.std.proofs.Math.Bool.{and_assoc, and-false}
 use mathlib.Core.List.Memᴰ
+use mir.Val.{bool_byte}
 use Rattle.std.proofs.Common.{inl, inr, ◌∙◌, arith, eqb-true, eq-eqb, ne_eqb, lt-ltb, le-leb, length-drop, take-append-drop, length-take-le}
 use Rattle.std.proofs.Math.Path.{sym, ap}
 use Rattle.std.proofs.lemmas.Bool.{eqb-false, lt-leb}
@@ -20,9 +21,13 @@ use Rattle.controller.specs.Laws.State.{same_gives, same_append}
 -- ---- counting
 
 -- one place more
-pub zeros_further : (s : List ℕ) (i n one : ℕ) → i < length s → n ≡ count_if is_zero (take i s) → one ≡ cond (is_zero (get_or s i 0)) 1 0
-    → n + one ≡ count_if is_zero (take (i + 1) s)
-zeros_further s i n one h sum more = rw (sum, more) (sym (count_further is_zero s i h))
+pub zeros_further : (s : List ℕ) (i n : ℕ) → i < length s → n ≡ count_if is_zero (take i s)
+    → n + bool_byte (is_zero (get_or s i 0)) ≡ count_if is_zero (take (i + 1) s)
+zeros_further s i n h sum = rw (sum, count_further is_zero s i h) (ap (λ (m : ℕ). count_if is_zero (take i s) + m) (one_if (is_zero (get_or s i 0))))
+  where
+    one_if : (t : Bool) → bool_byte t ≡ cond t 1 0
+    one_if true = refl
+    one_if false = refl
 
 -- of i places at most i are 0
 pub zeros_few : (s : List ℕ) (i : ℕ) → i ≤ length s → count_if is_zero (take i s) ≤ i
@@ -88,7 +93,7 @@ fits_used (x ∷ l) (t ∷ u) (suc i) up e h =
 -- ---- the unused places
 
 -- the used places are as they are recorded, so the others decide
-pub recorded_is : (w : List ℕ) (n : ℕ) → n ≤ length w → same w (recorded (take n w)) ≡ same (drop n w) (replicate (max_numbers - n) 0)
+recorded_is : (w : List ℕ) (n : ℕ) → n ≤ length w → same w (recorded (take n w)) ≡ same (drop n w) (replicate (max_numbers - n) 0)
 recorded_is w n h =
     ap (λ (s : List ℕ). same s (recorded (take n w))) (sym (take-append-drop n w))
     ∙ same_append (take n w) (drop n w) (replicate (max_numbers - length (take n w)) 0)
@@ -112,7 +117,7 @@ zeros_timely (suc k) = zeros_timely k
 -- ---- all places
 
 -- the used and the unused places, each by themselves
-timely_append : (u r : List ℕ) → timely (u ++ r) ≡ (timely u && timely r)
+pub timely_append : (u r : List ℕ) → timely (u ++ r) ≡ (timely u && timely r)
 timely_append [] r = refl
 timely_append (t ∷ u) r = rw (timely_append u r) (sym (and_assoc (ltb t last_round) (timely u) (timely r)))
 

@@ -1,6 +1,6 @@
 -- Laws of what the tally makes: the lists that the walk has made hold the numbers that the rules echo and make candidates, and where there are too many for
 -- them, so there are by the rules.
-use Rattle.std.specs.Prelude.{ℕ, ◌<◌, true, false, ◌&&◌, List, ◌≡◌, refl, leb, length}
+use Rattle.std.specs.Prelude.{ℕ, ◌<◌, true, false, ◌&&◌, List, ◌≡◌, refl, leb, length, Some, None}
 use Rattle.std.proofs.Common.{true≢false, inl, inr, sym, ap, ◌∙◌, arith, le-leb}
 use Rattle.std.proofs.lemmas.Bool.{lt-leb}
 use Rattle.std.proofs.Math.Bool.{and-false}
@@ -40,8 +40,8 @@ module _ (c : Rotor) (l : ReceivedLists) (some : 0 < length l.heard) where
       rw (crowd_many (echoed c l) crowd (λ y p. (echoed_in c l some).1 p)) (and-false (leb (length (candidates_after c l)) max_numbers))
   too_many (inr crowd) = rw (crowd_many (candidates_after c l) crowd (λ y p. (candidates_in_lem c l some).1 p))
 
--- the lists as they stand then
-module _ (s : State) (b : List ℕ) (test : sound_rules s ≡ true) {e k : List ℕ} {r : Settled} (sorts : Tallies s b e k r) where
+-- the state as it stands then
+module _ (s : State) (b : List ℕ) (test : sound_rules s ≡ true) where
   abbrev c : Rotor
   c = (view s).rotor
 
@@ -51,37 +51,22 @@ module _ (s : State) (b : List ℕ) (test : sound_rules s ≡ true) {e k : List 
   somebody : 0 < length l.heard
   somebody = heard_some (view s) (entries b) (rules_give s test)
 
-  pub sorted_grows : r.fits ≡ true → GrowsLists s b (record { fits = true; echoes = r.echoed; candidates = r.candidates }) k e
-  sorted_grows fits =
+  pub sorted_grows : (r : Settled) → Tallies s b (Some r) → GrowsLists s b true (record s { echoes = r.echoed; candidates = r.candidates })
+  sorted_grows r sorts =
       let h = rules_give s test in
-      let m : Numbers = record { len = r.echoed; at = e } in
-      let n : Numbers = record { len = r.candidates; at = k } in
-      let echoes : m ≡ stored (echoed c l) =
-      holds_stored m (echoed c l) (sorts.echoes fits) (echoed_rising c l) (λ y p. (echoed_in c l somebody).1 p) (λ y i. (echoed_in c l somebody).0 i) in
-      let candidates : n ≡ stored (candidates_after c l) =
-      holds_stored n (candidates_after c l) (sorts.candidates fits) (candidates_rising c l h.candidates.rises)
+      let echoes : r.echoed ≡ stored (echoed c l) =
+      holds_stored r.echoed (echoed c l) sorts.0 (echoed_rising c l) (λ y p. (echoed_in c l somebody).1 p) (λ y i. (echoed_in c l somebody).0 i) in
+      let candidates : r.candidates ≡ stored (candidates_after c l) =
+      holds_stored r.candidates (candidates_after c l) sorts.1 (candidates_rising c l h.candidates.rises)
       (λ y p. (candidates_in_lem c l somebody).1 p) (λ y i. (candidates_in_lem c l somebody).0 i) in
-      let echoes-few = sound_list_gives m (sorts.echoes fits).sound in
-      let candidates-few = sound_list_gives n (sorts.candidates fits).sound in
+      let echoes-few = sound_list_gives r.echoed sorts.0.sound in
+      let candidates-few = sound_list_gives r.candidates sorts.1.sound in
       let one : leb (length (candidates_after c l)) max_numbers ≡ true =
       le-leb (length (candidates_after c l)) max_numbers
       (omega (arith, ap (λ (q : Numbers). q.len) candidates, candidates-few.used, candidates-few.list.short)) in
       let two : leb (length (echoed c l)) max_numbers ≡ true =
       le-leb (length (echoed c l)) max_numbers (omega (arith, ap (λ (q : Numbers). q.len) echoes, echoes-few.used, echoes-few.list.short)) in
-      record {
-        fits = rw (one, two);
-        few = omega (arith, candidates-few.used, candidates-few.list.short);
-        echoes = λ t. echoes;
-        candidates = λ t. candidates;
-        kept = λ t. absurd (true≢false t);
-      }
+      record { fits = rw (one, two); grown = λ t. rw (echoes, candidates); kept = λ t. absurd (true≢false t) }
 
-  pub crowded_keeps : r.fits ≡ false → GrowsLists s b (record { fits = false; echoes = 0; candidates = 0 }) s.candidates.at s.echoes.at
-  crowded_keeps none =
-      record {
-        fits = sym (too_many c l somebody (sorts.crowded none));
-        few = omega arith;
-        echoes = λ t. absurd (true≢false (sym t));
-        candidates = λ t. absurd (true≢false (sym t));
-        kept = λ t. (refl, refl);
-      }
+  pub crowded_keeps : Tallies s b None → GrowsLists s b false s
+  crowded_keeps crowd = record { fits = sym (too_many c l somebody crowd); grown = λ t. absurd (true≢false (sym t)); kept = λ t. refl }

@@ -4,22 +4,24 @@
 --     Around l j x ..   list l, as list j, stands at x, or at x + 1
 --     Passing ..        so does each list, and those that have x and stand at x + 1 are counted
 --     Climbing ..       so it is, and k is the node up to which the tree is in order again; its key is above x
-use Rattle.std.specs.Prelude.{ℕ, ◌+◌, ◌-◌, ◌*◌, ◌/◌, ◌%◌, ◌≤◌, ◌<◌, true, false, cond, List, [], ◌∷◌, ◌⊎◌, ◌≢◌, ◌≡◌, refl, eqb, ltb, length, get_or, set}
+use Rattle.std.specs.Prelude.{ℕ, ◌+◌, ◌-◌, ◌*◌, ◌/◌, ◌%◌, ◌≤◌, ◌<◌, true, false, cond, List, [], ◌∷◌, ◌⊎◌, ◌≢◌, ◌≡◌, refl, eqb, ltb, min, length, get_or, set}
 use Rattle.std.proofs.Common.{inl, inr, sym, ap, ◌∙◌, zero-add, arith, lt-ltb, le-ltb, eq-eqb, ne_eqb, length-set, get_or-set_same, get_or-set_other}
 use Rattle.std.proofs.Math.Decide.{ℕ_discrete, dec_lt}
 use Rattle.std.proofs.Math.ListN.{get_or-eq_default}
 use Rattle.wire.specs.Limits.{max_numbers}
 use Rattle.controller.specs.Lists.{mem, Rising}
 use Rattle.controller.specs.Work.Lists.{below}
-use Rattle.controller.specs.Work.Opened.{total, end_mark, max_lists, open_list, Opens, weighed}
-use Rattle.controller.specs.Work.Heads.{slots, key_of, Stands, Standing, Moves, lesser_of, sibling_of, Ordered, Roomy, Passes}
+use Rattle.controller.specs.Work.OpenList.{total, end_mark, max_lists, open_list, Opens, weighed, starts_of, counts_of, sent_of}
+use Rattle.controller.specs.Work.Heads.{slots, key_of, Stands, Standing, Moves, sibling_of, Ordered, Roomy, Passes, keys_of, places_of}
 use Rattle.controller.specs.Laws.Lists.{get_or_inside, count_none}
 use Rattle.controller.specs.Laws.Work.Opened.{list_from_length}
 use Rattle.controller.specs.Laws.Work.Lists.{below_past, below_finds, below_length, below_misses}
 use Rattle.controller.specs.Laws.Work.Total.{total_same, total_one, total_none}
-use Rattle.controller.specs.Laws.Work.Tree.{LeafOf, OrderedBut, lesser_one, leaf_of, ordered_all, ordered_beside}
+use Rattle.controller.specs.Laws.Work.Tree.{LeafOf, OrderedBut, leaf_of, ordered_all, ordered_beside}
 use Rattle.controller.specs.Laws.Work.Tree.{ordered_but, ordered_climbs, ordered_leaf, root_least, sibling_inside}
 use Rattle.controller.specs.Laws.Work.Weights.{weighed_most}
+use Rattle.controller.specs.declared.heads.Heads.{Heads}
+use Rattle.controller.specs.declared.open_list.OpenLists.{OpenLists}
 
 -- ---- the head of a list
 
@@ -112,7 +114,7 @@ Waits t m x j = (j < m) × (get_or t (m + j) 0 / slots ≡ x)
 
 module _ (w : ℕ → ℕ) (t : List ℕ) (m x : ℕ) where
   -- another key of an inner node does not matter
-  pub waiting_inner : (k v : ℕ) → k < m → waiting w (set t k v) m x ≡ waiting w t m x
+  waiting_inner : (k v : ℕ) → k < m → waiting w (set t k v) m x ≡ waiting w t m x
   waiting_inner k v h = total_same _ _ m (λ j i. rw (get_or-set_other t k (m + j) v 0 (omega arith)))
 
   -- list j moves on to a key above x
@@ -146,6 +148,11 @@ pub record Climbing (own b s n c : List ℕ) (m x : ℕ) (t p i : List ℕ) (cou
   pub held : key ≡ get_or t k 0
   pub later : x < key / slots
   pub but : OrderedBut t m k
+
+-- the same of the code's records
+abbrev pub ClimbingIn : OpenLists → ℕ → Heads → ℕ → ℕ → ℕ → Type 0
+ClimbingIn o x h count key k =
+    Climbing o.own.now o.tray.now (starts_of o.lists) (counts_of o.lists) (sent_of o.lists) o.len x h.tree (keys_of h.ahead) (places_of h.ahead) count key k
 
 module _ {own b s n c : List ℕ} {m x : ℕ} (o : Opens own b s n c m) (low : x < end_mark) where
   pub passing_start : {t p i : List ℕ} → Roomy t p i → Standing own b s n m x t p i → Passing own b s n c m x t p i 0
@@ -288,20 +295,20 @@ module _ {own b s n c : List ℕ} {m x : ℕ} (o : Opens own b s n c m) (low : x
           let f = passing_finds g.passing q l h in
           climbing_moves g.passing f.0 v (rw f.1 (ordered_beside t m k l.leaf l.steps (l.under ∙ e) g.but))
 
-      pub climbing_climbs : {v : ℕ} → (x + 1) * slots ≤ get_or t q 0 → v ≡ lesser_of key (get_or t q 0)
+      pub climbing_climbs : {v : ℕ} → (x + 1) * slots ≤ get_or t q 0 → v ≡ min key (get_or t q 0)
           → Climbing own b s n c m x (set t (k / 2) v) p i count v (k / 2)
       climbing_climbs {v} h f =
           let few = o.few in
           let size = g.passing.room.tree in
           let inside = g.inside in
           let later = g.later in
-          let made : v ≡ lesser_of (get_or t k 0) (get_or t (sibling_of k) 0) = rw (← g.held, ← e) f in
+          let made : v ≡ min (get_or t k 0) (get_or t (sibling_of k) 0) = rw (← g.held, ← e) f in
           record {
             passing = passing_inner g.passing (k / 2) v (omega arith);
             some = omega arith;
             inside = omega arith;
             held = sym (get_or-set_same t (k / 2) v 0 (omega arith));
-            later = elim (lesser_one key (get_or t q 0)) [ inl r ↦ omega arith | inr r ↦ omega arith ];
+            later = omega arith;
             but = ordered_climbs t m k v more (omega arith) made g.but;
           }
 

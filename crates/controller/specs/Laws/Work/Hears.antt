@@ -3,7 +3,7 @@ use Rattle.std.specs.Prelude.{ℕ, zero, suc, ◌+◌, ◌-◌, ◌≤◌, ◌<�
 use Rattle.std.specs.Prelude.{get_or, set, replicate}
 use Rattle.std.proofs.Math.Bool.{and_comm}
 use mathlib.Core.List.Memᴰ
-use Rattle.std.proofs.Common.{inl, inr, sym, ap, subst, ◌∙◌, arith, eq-eqb, ne_eqb, le-ltb, length-set, get_or-set_same, get_or-set_other}
+use Rattle.std.proofs.Common.{true≢false, inl, inr, sym, ap, subst, ◌∙◌, arith, eq-eqb, ne_eqb, le-leb, le-ltb, length-set, get_or-set_same, get_or-set_other}
 use Rattle.std.proofs.Math.Decide.{ℕ_discrete, dec_lt}
 use Rattle.std.proofs.Math.Nat.{sub-zero}
 use Rattle.std.proofs.lemmas.Bool.{lt-leb}
@@ -14,7 +14,6 @@ use Rattle.wire.specs.Laws.Numbers.{listed_stored}
 use Rattle.wire.specs.Limits.{max_numbers}
 use Rattle.wire.specs.Numbers.{stored, listed}
 use Rattle.wire.specs.Tray.{well_formed, entry_count, sender, place, entries_from, entries}
-use Rattle.wire.specs.Words.{Below}
 use Rattle.wire.specs.declared.frame.Numbers.{Numbers}
 use Rattle.controller.specs.Lists.{In, mem, insert, insert_all}
 use Rattle.controller.specs.State.{sound_list}
@@ -178,7 +177,7 @@ module _ {own : ℕ} {b l : List ℕ} {list : Numbers} {f : List ℕ} {i : ℕ} 
 hears_others : (own : ℕ) (xs : List ℕ) → ((x : ℕ) → In x xs → (x ≢ 0) × (x ≢ own)) → others_only own xs ≡ true
 hears_others own xs all = rw (out_mem xs (λ i. (all 0 i).0 refl), out_mem xs (λ i. (all own i).1 refl))
 
-module _ {own : ℕ} {b l : List ℕ} {list : Numbers} {f : List ℕ} (packed : well_formed b ≡ true) (bytes : Below 256 b) (done : HearsFrom own b l list f 0) where
+module _ {own : ℕ} {b l : List ℕ} {list : Numbers} {f : List ℕ} (packed : well_formed b ≡ true) (done : HearsFrom own b l list f 0) where
   rest_all : senders_from b 0 ≡ senders (entries b)
   unfolding entries
   rest_all = rw sub-zero
@@ -186,40 +185,40 @@ module _ {own : ℕ} {b l : List ℕ} {list : Numbers} {f : List ℕ} (packed : 
   all_heard : listed list ≡ heard_after b l
   all_heard = done.heard ∙ ap (λ m. insert_all m l) rest_all
 
-  pub hears_all : Hears own b l list.len list.at f
+  pub hears_all : Hears own b l true list f
   hears_all =
       let was = sound_list_gives list done.sound in
       let used : list.len ≡ length (heard_after b l) = sym was.used ∙ ap length all_heard in
       let others = hears_others own (senders (entries b)) (λ x j. done.others x (subst (In x) (sym rest_all) j)) in
       record {
-        fits = rw others (ap (λ (n : ℕ). leb n max_numbers) used);
+        fits = rw (others, ← used, le-leb list.len max_numbers (omega (arith, was.used, was.list.short)));
         list = λ h. sym was.back ∙ ap stored all_heard;
         notes = λ h j k.
             let y = get_or (heard_after b l) j 0 in
             let inside : j < length (listed list) = omega (arith, ap length all_heard) in
             let whole : entry_count b - 0 ≡ entry_count b = omega arith in
             let is = done.notes j inside ∙ ap (λ (m : List ℕ). note_on b (get_or m j 0) 0) all_heard ∙ ap (λ (n : ℕ). note_from b y n 0) whole in
-            ap found_by is ∙ note_found b packed bytes y;
+            ap found_by is ∙ note_found b packed y;
       }
 
 -- ---- the refusals
 
-pub refused : (own : ℕ) (b l at f : List ℕ) → (others_only own (senders (entries b)) && leb (length (heard_after b l)) max_numbers) ≡ false
-    → Hears own b l (max_numbers + 1) at f
-refused own b l at f unfit = record { fits = sym unfit; list = λ h. absurd (omega arith); notes = λ h. absurd (omega arith) }
+pub refused : (own : ℕ) (b l : List ℕ) (n : Numbers) (f : List ℕ)
+    → (others_only own (senders (entries b)) && leb (length (heard_after b l)) max_numbers) ≡ false → Hears own b l false n f
+refused own b l n f unfit = record { fits = sym unfit; list = λ t. absurd (true≢false (sym t)); notes = λ t. absurd (true≢false (sym t)) }
 
 -- a sender is the own number, or 0
-pub hears_own : (own : ℕ) (b l : List ℕ) (i : ℕ) (at f : List ℕ) → i < entry_count b → sender b i ≡ own → Hears own b l (max_numbers + 1) at f
-hears_own own b l i at f h e =
-    refused own b l at f
+pub hears_own : (own : ℕ) (b l : List ℕ) (i : ℕ) (n : Numbers) (f : List ℕ) → i < entry_count b → sender b i ≡ own → Hears own b l false n f
+hears_own own b l i n f h e =
+    refused own b l n f
     (rw (in_mem (Memᴰ.cast (sym e) (sender_in b i h))) (pick (not (mem 0 (senders (entries b)))) (leb (length (heard_after b l)) max_numbers)))
   where
     pick : (t u : Bool) → (t && false && u) ≡ false
     pick true u = refl
     pick false u = refl
 
-pub hears_zero : (own : ℕ) (b l : List ℕ) (i : ℕ) (at f : List ℕ) → i < entry_count b → sender b i ≡ 0 → Hears own b l (max_numbers + 1) at f
-hears_zero own b l i at f h e = refused own b l at f (rw (in_mem (Memᴰ.cast (sym e) (sender_in b i h))))
+pub hears_zero : (own : ℕ) (b l : List ℕ) (i : ℕ) (n : Numbers) (f : List ℕ) → i < entry_count b → sender b i ≡ 0 → Hears own b l false n f
+hears_zero own b l i n f h e = refused own b l n f (rw (in_mem (Memᴰ.cast (sym e) (sender_in b i h))))
 
 -- a sender from entry i on is a sender
 rest_inside : (b : List ℕ) (n i y : ℕ) → i + n ≤ entry_count b → In y (senders (entries_from b n i)) → In y (senders (entries b))
@@ -231,8 +230,8 @@ rest_inside b (suc n) i y h j = elim (Memᴰ.cases_cons j) [
 
 -- a sender is new, and as many as can be are heard already
 pub hears_full : {own : ℕ} {b l : List ℕ} {list : Numbers} {f : List ℕ} {i : ℕ} → i < entry_count b → HearsFrom own b l list f (i + 1)
-    → (¬ In (sender b i) (listed list)) → max_numbers ≤ list.len → (at g : List ℕ) → Hears own b l (max_numbers + 1) at g
-hears_full {own} {b} {l} {list} {f} {i} h so_far out full at g =
+    → (¬ In (sender b i) (listed list)) → max_numbers ≤ list.len → (n : Numbers) (g : List ℕ) → Hears own b l false n g
+hears_full {own} {b} {l} {list} {f} {i} h so_far out full n g =
     let x = sender b i in
     let rises = (sound_list_gives list so_far.sound).list.rises in
     let more : list.len + 1 ≤ length (heard_after b l) =
@@ -242,4 +241,4 @@ hears_full {own} {b} {l} {list} {f} {i} h so_far out full at g =
       | inl k ↦ (insert_all_in (senders (entries b)) l).1 (inl (rest_inside b (entry_count b - i) i y (omega arith) k))
       | inr k ↦ (insert_all_in (senders (entries b)) l).1 (inr k)
     ])) in
-    refused own b l at g (rw (lt-leb (length (heard_after b l)) max_numbers (omega arith)) (and_comm (others_only own (senders (entries b))) false))
+    refused own b l n g (rw (lt-leb (length (heard_after b l)) max_numbers (omega arith)) (and_comm (others_only own (senders (entries b))) false))

@@ -1,18 +1,18 @@
 -- Laws of stored lists: the place of a number, a number put in at its place, and what the stored form is then.
-use Rattle.std.specs.Prelude.{ℕ, zero, suc, ◌+◌, ◌-◌, ◌%◌, ◌≤◌, ◌<◌, ◌≡◌, refl, true, false, ◌≢◌, List, [], ◌∷◌, ◌++◌, eqb, ltb, length, get_or, set}
-use Rattle.std.specs.Prelude.{take, drop, replicate}
+use Rattle.std.specs.Prelude.{ℕ, zero, suc, ◌+◌, ◌-◌, ◌≤◌, ◌<◌, ◌≡◌, refl, false, ◌≢◌, List, [], ◌∷◌, ◌++◌, eqb, ltb, length, get_or, set}
+use Rattle.std.specs.Prelude.{take, drop, replicate, Ok, Err}
 use Rattle.std.proofs.Common.{sym, ap, ◌∙◌, inl, inr, append_assoc, add-one, arith, ltb-true, ltb-false, eq-eqb, ne_eqb, lt-ltb, le-ltb}
 use Rattle.std.proofs.Common.{length-append, length-take, length-drop, take-suc, set-set, get_or-set_other, get_or-append-add, get_or-take}
-use Rattle.std.proofs.Common.{get_or-drop, drop_at, length-take-le, take-take}
+use Rattle.std.proofs.Common.{get_or-drop, length-take-le, take-take}
 use mathlib.Core.List.Memᴰ
-use Rattle.std.proofs.lemmas.List.{length-replicate, replicate-append-replicate, set_at, set_split}
+use Rattle.std.proofs.lemmas.List.{drop-replicate, set_at, set_split}
 use Rattle.std.proofs.Math.ListN.{get_or-append}
 use Rattle.std.proofs.Math.Seq.{append_snoc, slice, slice_empty, slice-cons, length-slice, drop-append-add, take-length, drop-length}
 use Rattle.wire.specs.Limits.{max_numbers}
 use Rattle.wire.specs.Numbers.{stored, listed}
 use Rattle.wire.specs.declared.frame.Numbers.{Numbers}
 use Rattle.controller.specs.Lists.{In, mem, insert, Rising}
-use Rattle.controller.specs.Work.Lists.{below, absent, found_in, inserted_at, opened}
+use Rattle.controller.specs.Work.Lists.{below, found_in, inserted_at, opened}
 use Rattle.controller.specs.Laws.Lists.{true_or_false, out_mem, get_or_in, count_none, count_short, count_split, count_inside}
 use Rattle.controller.specs.Laws.Lists.{rising_at, rising_no_repeats, rising_place, insert_in, mem_in, mem_out}
 
@@ -45,29 +45,28 @@ below_finds x l up h = elim (true_or_false (mem x l)) [
 pub below_length : (x : ℕ) (l : List ℕ) → below x l ≤ length l
 below_length x l = omega (arith, count_split (λ y. ltb y x) l)
 
+pub below_inside : (x : ℕ) (l : List ℕ) → In x l → below x l < length l
+below_inside x l i = count_short (λ y. ltb y x) x i (le-ltb x x (omega arith))
+
 pub below_misses : (x : ℕ) (l : List ℕ) → length l ≤ below x l → mem x l ≡ false
-below_misses x l h = out_mem l (λ i. absurd (omega (arith, count_short (λ y. ltb y x) x i (le-ltb x x (omega arith)))))
+below_misses x l h = out_mem l (λ i. absurd (omega (arith, below_inside x l i)))
 
--- a greater number's place is not before it
--- what is found of a number in a list of at most 64: whether it is there, and its place
-module _ (x r : ℕ) (l : List ℕ) (short : length l ≤ max_numbers) (found : r ≡ found_in x l) where
-  pub found_known : r < absent → mem x l ≡ true
-  found_known h = elim (true_or_false (mem x l)) [
-    | inl t ↦ t
-    | inr t ↦ let e : r ≡ absent + below x l = found ∙ rw t in absurd (omega arith)
-  ]
+-- what is found of a number: whether it is there, and its place
+pub found_known : (x j : ℕ) (l : List ℕ) → Ok j ≡ found_in x l → In x l × (j ≡ below x l)
+found_known x j l found = elim (true_or_false (mem x l)) [
+  | inl t ↦ let same : Ok j ≡ Ok (below x l) = found ∙ rw t in (mem_in l t, cc)
+  | inr t ↦ let apart : Ok j ≡ Err (below x l) = found ∙ rw t in cc
+]
 
-  pub found_unknown : absent ≤ r → mem x l ≡ false
-  found_unknown h = elim (true_or_false (mem x l)) [
-    | inl t ↦ let e : r ≡ below x l = found ∙ rw t in absurd (omega (arith, below_length x l))
-    | inr t ↦ t
-  ]
+pub found_unknown : (x j : ℕ) (l : List ℕ) → Err j ≡ found_in x l → (¬ In x l) × (j ≡ below x l)
+found_unknown x j l found = elim (true_or_false (mem x l)) [
+  | inl t ↦ let apart : Err j ≡ Ok (below x l) = found ∙ rw t in cc
+  | inr t ↦ let same : Err j ≡ Err (below x l) = found ∙ rw t in (mem_out l t, cc)
+]
 
-  pub found_place : r % absent ≡ below x l
-  found_place = elim (true_or_false (mem x l)) [
-    | inl t ↦ let e : r ≡ below x l = found ∙ rw t in omega (arith, below_length x l)
-    | inr t ↦ let e : r ≡ absent + below x l = found ∙ rw t in omega (arith, below_length x l)
-  ]
+-- its place is one of the list's
+pub found_inside : (x j : ℕ) (l : List ℕ) → Ok j ≡ found_in x l → j < length l
+found_inside x j l found = let at = found_known x j l found in omega (arith, at.1, below_inside x l at.0)
 
 -- a number that stands at a place of a rising list is in it, and that is its place
 pub stands_there : (n : Numbers) (x i : ℕ) → Rising (listed n) → i < n.len → i < length (listed n) → get_or n.at i 0 ≡ x
@@ -76,6 +75,7 @@ stands_there n x i up used inside e =
     let here : get_or (listed n) i 0 ≡ x = get_or-take n.len n.at i 0 used ∙ e in
     (Memᴰ.cast (sym here) (get_or_in (listed n) i inside), sym (rising_at (listed n) i up inside) ∙ ap (λ (y : ℕ). below y (listed n)) here)
 
+-- a greater number's place is not before it
 pub below_more : (x y : ℕ) (l : List ℕ) → x ≤ y → below x l ≤ below y l
 below_more x y [] h = omega arith
 below_more x y (z ∷ l) h =
@@ -120,7 +120,7 @@ module _ (i x : ℕ) (s r : List ℕ) (h : i ≤ length s) where
   pub put_here : get_or (take i s ++ x ∷ r) i 0 ≡ x
   put_here = let e : i + 0 ≡ i = omega arith in rw e at (put_at 0)
 
-  pub put_behind : (j : ℕ) → i < j → get_or (take i s ++ x ∷ r) j 0 ≡ get_or r (j - (i + 1)) 0
+  put_behind : (j : ℕ) → i < j → get_or (take i s ++ x ∷ r) j 0 ≡ get_or r (j - (i + 1)) 0
   put_behind j l = let e : i + suc (j - (i + 1)) ≡ j = omega arith in rw e at (put_at (suc (j - (i + 1))))
 
 -- the numbers from place i on stand one place further, in a list and in its places
@@ -188,22 +188,21 @@ module _ (x n i : ℕ) (s at : List ℕ) (h : i < n) (k : n ≤ length s) (e : s
 -- ---- the stored form
 
 -- behind a list all places are 0, also from a later place on
-pub unused_from : (l : List ℕ) (j : ℕ) → length l ≤ j → j ≤ max_numbers → drop j (stored l).at ≡ replicate (max_numbers - j) 0
-unused_from l j h k =
-    let unused = max_numbers - length l in
+pub unused_from : (l : List ℕ) (j : ℕ) → length l ≤ j → drop j (stored l).at ≡ replicate (max_numbers - j) 0
+unused_from l j h =
     let passed = j - length l in
+    let unused = max_numbers - length l in
     let at : length l + passed ≡ j = omega arith in
-    let left : passed + (max_numbers - j) ≡ unused = omega arith in
-    rw at at (drop-append-add l (replicate unused 0) passed)
-    ∙ ap (λ (n : ℕ). drop passed (replicate n 0)) (sym left)
-    ∙ ap (drop passed) (sym (replicate-append-replicate passed (max_numbers - j) 0))
-    ∙ drop_at (replicate passed 0) (replicate (max_numbers - j) 0) passed (length-replicate passed 0)
+    let left : unused - passed ≡ max_numbers - j = omega arith in
+    let zeros : drop j (stored l).at ≡ replicate (unused - passed) 0 =
+    rw at at (drop-append-add l (replicate unused 0) passed) ∙ drop-replicate passed unused 0 in
+    rw left at zeros
 
 -- the unused places behind the one that is taken next
 unused_rest : (n : Numbers) → stored (listed n) ≡ n → n.len < max_numbers → drop (n.len + 1) n.at ≡ replicate (max_numbers - (n.len + 1)) 0
 unused_rest n e h =
     let used : length (listed n) ≡ n.len = ap (λ (m : Numbers). m.len) e in
-    sym (ap (λ (m : Numbers). drop (n.len + 1) m.at) e) ∙ unused_from (listed n) (n.len + 1) (omega arith) (omega arith)
+    sym (ap (λ (m : Numbers). drop (n.len + 1) m.at) e) ∙ unused_from (listed n) (n.len + 1) (omega arith)
 
 places_stored : (n : Numbers) (i x : ℕ) → stored (listed n) ≡ n → n.len < max_numbers → i ≤ n.len
     → opened i x n.len n.at ≡ inserted_at i x (listed n) ++ replicate (max_numbers - (n.len + 1)) 0

@@ -17,10 +17,10 @@ use Rattle.wire.specs.declared.frame.Numbers.{Numbers}
 use Rattle.wire.specs.Tray.{Entry}
 use Rattle.controller.specs.First.{first_of, firsts_after, rounds_after}
 use Rattle.controller.specs.Laws.First.{alongside_length}
-use Rattle.controller.specs.Laws.Lists.{true_or_false, in_or_not, in_mem, mem_in, get_or_in, count_none, count_short, rising_at, inside_length, get_or_inside}
+use Rattle.controller.specs.Laws.Lists.{true_or_false, in_or_not, in_mem, mem_in, get_or_in, count_none, rising_at, inside_length, get_or_inside}
 use Rattle.controller.specs.Laws.Lists.{rising_no_repeats, rising_same}
 use Rattle.controller.specs.Laws.Received.{heard_in_lem}
-use Rattle.controller.specs.Laws.Work.Lists.{unused_from}
+use Rattle.controller.specs.Laws.Work.Lists.{below_inside, unused_from}
 use Rattle.controller.specs.Laws.State.{sound_beside_lem, beside_gives, sound_gives, sound_list_gives}
 use Rattle.controller.specs.Lists.{In, Inside, Rising, mem}
 use Rattle.controller.specs.Received.{receive}
@@ -100,13 +100,13 @@ module _ (s : State) (es : List Entry) (h : sound s ≡ true) where
   places : recorded (first_rounds s) ≡ s.since
   places = (beside_gives s.own l s.since (sound_beside_lem s h)).1
 
-  pub moved_recorded : length m ≤ max_numbers → moved_to l m s.round s.since ≡ rounds_after s es
+  pub moved_recorded : moved_to l m s.round s.since ≡ rounds_after s es
   unfolding firsts_after
-  moved_recorded short =
+  moved_recorded =
       let given : ℕ → ℕ = λ x. cond (mem x l) (first_of x l (first_rounds s)) s.round in
       let same : (λ x. cond (mem x l) (get_or s.since (below x l) 0) s.round) ≡ given = λ i x. sym (each x) i in
       let rest : drop (length m) s.since ≡ replicate (max_numbers - length m) 0 =
-      ap (drop (length m)) (sym places) ∙ unused_from (first_rounds s) (length m) (omega (arith, as_many, more)) short in
+      ap (drop (length m)) (sym places) ∙ unused_from (first_rounds s) (length m) (omega (arith, as_many, more)) in
       ap (λ (f : ℕ → ℕ). map f m ++ drop (length m) s.since) same
       ∙ ap (λ (r : List ℕ). map given m ++ r) rest
       ∙ ap (λ (n : ℕ). map given m ++ replicate (max_numbers - n) 0) (sym (length-map m given))
@@ -115,7 +115,6 @@ module _ (s : State) (es : List Entry) (h : sound s ≡ true) where
       each x = elim (true_or_false (mem x l)) [
         | inl t ↦
             let i : In x l = mem_in l t in
-            let inside : below x l < length l = count_short (λ y. ltb y x) x i (le-ltb x x (omega arith)) in
-            rw t (first_place l (first_rounds s) x up i ∙ get_or-take (length l) s.since (below x l) 0 inside)
+            rw t (first_place l (first_rounds s) x up i ∙ get_or-take (length l) s.since (below x l) 0 (below_inside x l i))
         | inr t ↦ rw t
       ]

@@ -3,7 +3,7 @@ use Rattle.std.specs.Prelude.{ℕ, ◌/◌, ◌%◌, ◌≤◌, ◌<◌, Bool, f
 use Rattle.std.proofs.Math.Bool.{true}
 use Rattle.std.proofs.Common.{true≢false, sym, ap, ◌∙◌, arith, eq-eqb, ne_eqb, le-ltb, get_or-take}
 use mathlib.Core.List.Memᴰ
-use Rattle.std.proofs.Math.Option.{some, none}
+use Rattle.std.specs.Prelude.{Some, None}
 use Rattle.std.proofs.Math.ListN.{get_or}
 use Rattle.wire.specs.Frame.{kind_of, bit_in}
 use Rattle.wire.specs.Limits.{max_numbers}
@@ -81,7 +81,7 @@ module _ {s : State} {b f : List ℕ} (ready : Ready s b f) where
   -- one that has none is oneself, or silent
   pub ready_absent : (j : ℕ) → j < s.heard.len → eqb (get_or f j 0) no_frame ≡ true
       → (received_by s b).from (get_or (listed s.heard) j 0)
-      ≡ cond (eqb (get_or (listed s.heard) j 0) s.own) (some (frame_of (view s))) (some (stand_in (view s)))
+      ≡ cond (eqb (get_or (listed s.heard) j 0) s.own) (Some (frame_of (view s))) (Some (stand_in (view s)))
   unfolding receive
   ready_absent j h absent =
       let x = get_or (listed s.heard) j 0 in
@@ -90,16 +90,16 @@ module _ {s : State} {b f : List ℕ} (ready : Ready s b f) where
 
   -- the list received under the number at place j
   pub ready_list : (j : ℕ) → j < s.heard.len
-      → cond (eqb (get_or f j 0) no_frame) (list_in (some (frame_of (view s)))) (list_in (read_in s.round (noted b (get_or f j 0))))
+      → cond (eqb (get_or f j 0) no_frame) (list_in (Some (frame_of (view s)))) (list_in (read_in s.round (noted b (get_or f j 0))))
       ≡ nth_list (lists (received_by s b)) j
   ready_list j h = pick (eqb (get_or f j 0) no_frame) refl ∙ ap (λ (l : List ℕ). list_in ((received_by s b).from (get_or l j 0))) ready_listed
     where
-      own_list : (t : Bool) → list_in (some (frame_of (view s))) ≡ list_in (cond t (some (frame_of (view s))) (some (stand_in (view s))))
+      own_list : (t : Bool) → list_in (Some (frame_of (view s))) ≡ list_in (cond t (Some (frame_of (view s))) (Some (stand_in (view s))))
       own_list true = refl
       own_list false = sym (stand_in_list (view s))
 
       pick : (t : Bool) → eqb (get_or f j 0) no_frame ≡ t
-          → cond t (list_in (some (frame_of (view s)))) (list_in (read_in s.round (noted b (get_or f j 0))))
+          → cond t (list_in (Some (frame_of (view s)))) (list_in (read_in s.round (noted b (get_or f j 0))))
           ≡ list_in ((received_by s b).from (get_or (listed s.heard) j 0))
       pick true e = own_list (eqb (get_or (listed s.heard) j 0) s.own) ∙ sym (ap list_in (ready_absent j h e))
       pick false e = sym (ap list_in (ready_read j h e))
@@ -113,7 +113,7 @@ module _ {s : State} {b f : List ℕ} (ready : Ready s b f) where
       good : Sound (view s)
       good = rules_give s ready.sound
 
-      own_bit : (t : Bool) → cond t s.said (silent_bit (view s)) ≡ bit_in (cond t (some (frame_of (view s))) (some (stand_in (view s))))
+      own_bit : (t : Bool) → cond t s.said (silent_bit (view s)) ≡ bit_in (cond t (Some (frame_of (view s))) (Some (stand_in (view s))))
       own_bit true = sym (frame_bit (view s) good ready.active)
       own_bit false = sym (stand_in_bit (view s) good ready.active)
 
@@ -145,5 +145,5 @@ module _ {s : State} {b f : List ℕ} (ready : Ready s b f) where
       received_opinion (view s) (entries b) (rules_give s ready.sound) ready.active k x ∙ ap (λ (q : ℕ). cond (leb q 1) q 2) (sym bit)
 
   -- of one that is not heard nothing is received
-  pub ready_unheard : (x : ℕ) → mem x (listed s.heard) ≡ false → (received_by s b).from x ≡ none
+  pub ready_unheard : (x : ℕ) → mem x (listed s.heard) ≡ false → (received_by s b).from x ≡ None
   ready_unheard x t = unheard_received (view s) (entries b) (rules_give s ready.sound) x (mem_out (received_by s b).heard (ap (mem x) ready.heard ∙ t))

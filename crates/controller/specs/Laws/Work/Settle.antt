@@ -1,6 +1,6 @@
 -- Laws of settling: what one number more makes of the lists that hold those settled before it.
-use Rattle.std.specs.Prelude.{ℕ, ◌+◌, ◌*◌, ◌≤◌, ◌<◌, true, false, List, ◌⊎◌, ◌≡◌, ltb, length, take}
-use Rattle.std.proofs.Common.{true≢false, inl, inr, sym, ap, ◌∙◌, subst, arith, lt-ltb}
+use Rattle.std.specs.Prelude.{ℕ, ◌+◌, ◌*◌, ◌≤◌, ◌<◌, true, List, ◌⊎◌, ◌≡◌, ltb, length}
+use Rattle.std.proofs.Common.{inl, inr, sym, ap, ◌∙◌, subst, arith, lt-ltb}
 use Rattle.std.proofs.Math.Decide.{ℕ_discrete}
 use Rattle.wire.specs.Limits.{max_numbers}
 use Rattle.wire.specs.Numbers.{stored, listed}
@@ -13,7 +13,7 @@ use Rattle.controller.specs.Laws.Thirds.{third_is, two_thirds_is}
 use Rattle.controller.specs.Lists.{In, insert}
 use Rattle.controller.specs.Work.Lists.{below, inserted_at}
 use Rattle.controller.specs.Thirds.{two_thirds}
-use Rattle.controller.specs.Work.Tally.{HasJust, Echoed, Settles, SettlesOn, Crowd}
+use Rattle.controller.specs.Work.Tally.{HasJust, Echoed, Settles, Crowd, TooMany}
 use Rattle.controller.specs.declared.tally.Settled.{Settled}
 
 -- ---- a list that holds the numbers with a property
@@ -33,10 +33,9 @@ module _ {P : ℕ → Type 0} {n : Numbers} (g : HasJust P n) (x : ℕ) (out : �
 
   -- x put in at its place
   module _ {Q : ℕ → Type 0} (room : n.len < max_numbers) (there : (y : ℕ) → (y ≡ x) ⊎ P y → Q y) (back : (y : ℕ) → Q y → (y ≡ x) ⊎ P y) where
-    holds_more : {at : List ℕ} {i : ℕ} → i ≡ below x (listed n) → ◌≡◌ {A = Numbers} (record { len = n.len + 1; at = at }) (stored (inserted_at i x (listed n)))
-        → HasJust Q (record { len = n.len + 1; at = at })
-    holds_more here made =
-        let whole : ◌≡◌ {A = Numbers} _ (stored (insert x (listed n))) = made ∙ ap stored (ap (λ (j : ℕ). inserted_at j x (listed n)) here ∙ put_in) in
+    holds_more : {m : Numbers} {i : ℕ} → i ≡ below x (listed n) → m ≡ stored (inserted_at i x (listed n)) → HasJust Q m
+    holds_more {m} here made =
+        let whole : m ≡ stored (insert x (listed n)) = made ∙ ap stored (ap (λ (j : ℕ). inserted_at j x (listed n)) here ∙ put_in) in
         let all : SoundList (insert x (listed n)) = record {
           short = omega (arith, put_length);
           rises = insert_rising x (listed n) tests.list.rises;
@@ -71,55 +70,51 @@ below_next : {A B : Type 0} {x y : ℕ} → A ⊎ ((y < x + 1) × B) → (y ≡ 
 below_next (inl a) = inr (inl a)
 below_next {x = x} {y = y} (inr b) = elim (ℕ_discrete y x) [ yes q ↦ inl q | no d ↦ inr (inr (omega (arith, b.0), b.1)) ]
 
-module _ {v : ℕ → ℕ} {h x : ℕ} {c e k : List ℕ} {s : Settled} (was : Settles v h c x e k s) where
+module _ {v : ℕ → ℕ} {h x : ℕ} {c : List ℕ} {s : Settled} (was : Settles v h c x s) where
   -- nothing changes where x is not to be echoed, and no candidate that is not one
-  passes : (¬ Echoed v h c x) → (two_thirds (v x) h ≡ true → In x c) → SettlesOn v h c x e k s
-  passes out known = record {
-    settled = λ fits. record {
-      echoes = holds_other was.echoes
-          (λ y p. (omega (arith, p.0), p.1))
-          (λ y p. elim (ℕ_discrete y x) [ yes q ↦ absurd (out (subst (Echoed v h c) q p.1)) | no d ↦ (omega (arith, p.0), p.1) ]);
-      candidates = holds_other was.candidates
-          (λ y p. below_later (omega arith) p)
-          (λ y p. elim p [
-            | inl i ↦ inl i
-            | inr t ↦ elim (below_next {A = In y c} (inr t)) [
-              | inl q ↦ inl (subst (λ z. In z c) (sym q) (known (subst (λ z. two_thirds (v z) h ≡ true) q t.1)))
-              | inr earlier ↦ earlier
-            ]
-          ]);
-      place = omega (arith, was.place, below_more x (x + 1) (take s.candidates k) (omega arith));
-      fits = fits;
-    };
-    crowded = λ f. absurd (true≢false (sym was.fits ∙ f));
-  }
+  passes : (¬ Echoed v h c x) → (two_thirds (v x) h ≡ true → In x c) → Settles v h c (x + 1) s
+  passes out known =
+      record {
+        echoes = holds_other was.echoes
+            (λ y p. (omega (arith, p.0), p.1))
+            (λ y p. elim (ℕ_discrete y x) [ yes q ↦ absurd (out (subst (Echoed v h c) q p.1)) | no d ↦ (omega (arith, p.0), p.1) ]);
+        candidates = holds_other was.candidates
+            (λ y p. below_later (omega arith) p)
+            (λ y p. elim p [
+              | inl i ↦ inl i
+              | inr t ↦ elim (below_next {A = In y c} (inr t)) [
+                | inl q ↦ inl (subst (λ z. In z c) (sym q) (known (subst (λ z. two_thirds (v z) h ≡ true) q t.1)))
+                | inr earlier ↦ earlier
+              ]
+            ]);
+        place = omega (arith, was.place, below_more x (x + 1) (listed s.candidates) (omega arith));
+      }
 
   -- too few have it
-  pub settles_few : 3 * v x < h → SettlesOn v h c x e k s
+  pub settles_few : 3 * v x < h → Settles v h c (x + 1) s
   settles_few few = passes (λ p. absurd (omega (arith, (third_is (v x) h).0 p.0))) (λ t. absurd (omega (arith, (two_thirds_is (v x) h).0 t)))
 
   -- it is a candidate
-  pub settles_known : In x (take s.candidates k) → SettlesOn v h c x e k s
+  pub settles_known : In x (listed s.candidates) → Settles v h c (x + 1) s
   settles_known i =
       let known : In x c = elim ((was.candidates.has x).0 i) [ inl j ↦ j | inr t ↦ absurd (omega (arith, t.0)) ] in
       passes (λ p. p.1 known) (λ t. known)
 
-  module _ (one : h ≤ 3 * v x) (out : ¬ In x (take s.candidates k)) (pos : 0 < x) where
+  module _ (one : h ≤ 3 * v x) (out : ¬ In x (listed s.candidates)) (pos : 0 < x) where
     new : Echoed v h c x
     new = ((third_is (v x) h).1 one, λ i. out ((was.candidates.has x).1 (inl i)))
 
     -- the echoes so far are below x, so that its place is behind them
-    unechoed : ¬ In x (take s.echoed e)
+    unechoed : ¬ In x (listed s.echoed)
     unechoed i = absurd (omega (arith, ((was.echoes.has x).0 i).0))
 
-    last : s.echoed ≡ below x (take s.echoed e)
+    last : s.echoed.len ≡ below x (listed s.echoed)
     last =
-        sym (count_all (λ y. ltb y x) (take s.echoed e) (λ y i. lt-ltb y x ((was.echoes.has y).0 i).0)
-        ∙ (sound_list_gives (record { len = s.echoed; at = e }) was.echoes.sound).used)
+        sym (count_all (λ y. ltb y x) (listed s.echoed) (λ y i. lt-ltb y x ((was.echoes.has y).0 i).0)
+        ∙ (sound_list_gives s.echoed was.echoes.sound).used)
 
-    more_echoes : {f : List ℕ} → s.echoed < max_numbers
-        → ◌≡◌ {A = Numbers} (record { len = s.echoed + 1; at = f }) (stored (inserted_at s.echoed x (take s.echoed e)))
-        → HasJust (λ y. (y < x + 1) × Echoed v h c y) (record { len = s.echoed + 1; at = f })
+    more_echoes : {e : Numbers} → s.echoed.len < max_numbers → e ≡ stored (inserted_at s.echoed.len x (listed s.echoed))
+        → HasJust (λ y. (y < x + 1) × Echoed v h c y) e
     more_echoes room made =
         holds_more was.echoes x unechoed pos room
         (λ y p. elim p [ inl q ↦ (omega (arith, q), subst (Echoed v h c) (sym q) new) | inr t ↦ (omega (arith, t.0), t.1) ])
@@ -127,67 +122,53 @@ module _ {v : ℕ → ℕ} {h x : ℕ} {c e k : List ℕ} {s : Settled} (was : S
         last made
 
     -- there are 64 echoes already
-    pub settles_crowds_echoes : {r : Settled} → max_numbers ≤ s.echoed → r.fits ≡ false → SettlesOn v h c x e k r
-    settles_crowds_echoes full fits = record {
-      settled = λ t. absurd (true≢false (sym t ∙ fits));
-      crowded = λ t. inl (holds_crowd was.echoes x unechoed pos full new (λ y p. p.1));
-    }
+    pub settles_crowds_echoes : max_numbers ≤ s.echoed.len → TooMany v h c
+    settles_crowds_echoes full = inl (holds_crowd was.echoes x unechoed pos full new (λ y p. p.1))
 
     -- it is echoed only
-    pub settles_echoes : {f : List ℕ} {p : ℕ} → 3 * v x < 2 * h → s.echoed < max_numbers → p ≡ below x (take s.candidates k)
-        → ◌≡◌ {A = Numbers} (record { len = s.echoed + 1; at = f }) (stored (inserted_at s.echoed x (take s.echoed e)))
-        → SettlesOn v h c x f k (record { echoed = s.echoed + 1; candidates = s.candidates; place = p; fits = s.fits })
-    settles_echoes less room here made = record {
-      settled = λ fits. record {
-        echoes = more_echoes room made;
-        candidates = holds_other was.candidates
-            (λ y p. below_later (omega arith) p)
-            (λ y p. elim p [
-              | inl i ↦ inl i
-              | inr t ↦ elim (below_next {A = In y c} (inr t)) [
-                | inl q ↦ absurd (omega (arith, (two_thirds_is (v x) h).0 (subst (λ z. two_thirds (v z) h ≡ true) q t.1)))
-                | inr earlier ↦ earlier
-              ]
-            ]);
-        place = omega (arith, here, below_more x (x + 1) (take s.candidates k) (omega arith));
-        fits = fits;
-      };
-      crowded = λ t. absurd (true≢false (sym was.fits ∙ t));
-    }
+    pub settles_echoes : {e : Numbers} {p : ℕ} → 3 * v x < 2 * h → s.echoed.len < max_numbers → p ≡ below x (listed s.candidates)
+        → e ≡ stored (inserted_at s.echoed.len x (listed s.echoed)) → Settles v h c (x + 1) (record { echoed = e; candidates = s.candidates; place = p })
+    settles_echoes less room here made =
+        record {
+          echoes = more_echoes room made;
+          candidates = holds_other was.candidates
+              (λ y p. below_later (omega arith) p)
+              (λ y p. elim p [
+                | inl i ↦ inl i
+                | inr t ↦ elim (below_next {A = In y c} (inr t)) [
+                  | inl q ↦ absurd (omega (arith, (two_thirds_is (v x) h).0 (subst (λ z. two_thirds (v z) h ≡ true) q t.1)))
+                  | inr earlier ↦ earlier
+                ]
+              ]);
+          place = omega (arith, here, below_more x (x + 1) (listed s.candidates) (omega arith));
+        }
 
     module _ (two : 2 * h ≤ 3 * v x) where
       joins : two_thirds (v x) h ≡ true
       joins = (two_thirds_is (v x) h).1 two
 
       -- there are 64 candidates already
-      pub settles_crowds_candidates : {f g : List ℕ} {r : Settled} → max_numbers ≤ s.candidates → r.fits ≡ false → SettlesOn v h c x f g r
-      settles_crowds_candidates full fits = record {
-        settled = λ t. absurd (true≢false (sym t ∙ fits));
-        crowded = λ t. inr (holds_crowd was.candidates x out pos full (inr joins) (λ y p. elim p [ inl i ↦ inl i | inr q ↦ inr q.1 ]));
-      }
+      pub settles_crowds_candidates : max_numbers ≤ s.candidates.len → TooMany v h c
+      settles_crowds_candidates full =
+          inr (holds_crowd was.candidates x out pos full (inr joins) (λ y p. elim p [ inl i ↦ inl i | inr q ↦ inr q.1 ]))
 
-      pub settles_joins : {f g : List ℕ} {p : ℕ} → s.echoed < max_numbers → s.candidates < max_numbers → p ≡ below x (take s.candidates k)
-          → ◌≡◌ {A = Numbers} (record { len = s.echoed + 1; at = f }) (stored (inserted_at s.echoed x (take s.echoed e)))
-          → ◌≡◌ {A = Numbers} (record { len = s.candidates + 1; at = g }) (stored (inserted_at p x (take s.candidates k)))
-          → SettlesOn v h c x f g (record { echoed = s.echoed + 1; candidates = s.candidates + 1; place = p; fits = s.fits })
-      settles_joins {f} {g} {p} room free here made grown =
-          let l = take s.candidates k in
-          let up = (sound_list_gives (record { len = s.candidates; at = k }) was.candidates.sound).list.rises in
-          let all : take (s.candidates + 1) g ≡ insert x l =
-          ap listed grown ∙ listed_stored (inserted_at p x l) ∙ ap (λ (j : ℕ). inserted_at j x l) here ∙ insert_place x l up out in
+      pub settles_joins : {r : Settled} → s.echoed.len < max_numbers → s.candidates.len < max_numbers → r.place ≡ below x (listed s.candidates)
+          → r.echoed ≡ stored (inserted_at s.echoed.len x (listed s.echoed)) → r.candidates ≡ stored (inserted_at r.place x (listed s.candidates))
+          → Settles v h c (x + 1) r
+      settles_joins {r} room free here made grown =
+          let l = listed s.candidates in
+          let up = (sound_list_gives s.candidates was.candidates.sound).list.rises in
+          let all : listed r.candidates ≡ insert x l =
+          ap listed grown ∙ listed_stored (inserted_at r.place x l) ∙ ap (λ (j : ℕ). inserted_at j x l) here ∙ insert_place x l up out in
           record {
-            settled = λ fits. record {
-              echoes = more_echoes room made;
-              candidates =
-                  holds_more was.candidates x out pos free
-                  (λ y p. elim p [
-                    | inl q ↦ inr (omega (arith, q), subst (λ z. two_thirds (v z) h ≡ true) (sym q) joins)
-                    | inr q ↦ below_later (omega arith) q
-                  ])
-                  (λ y p. below_next p)
-                  here grown;
-              place = rw all (omega (arith, here, below_more x (x + 1) l (omega arith), below_insert x (x + 1) l up));
-              fits = fits;
-            };
-            crowded = λ t. absurd (true≢false (sym was.fits ∙ t));
+            echoes = more_echoes room made;
+            candidates =
+                holds_more was.candidates x out pos free
+                (λ y p. elim p [
+                  | inl q ↦ inr (omega (arith, q), subst (λ z. two_thirds (v z) h ≡ true) (sym q) joins)
+                  | inr q ↦ below_later (omega arith) q
+                ])
+                (λ y p. below_next p)
+                here grown;
+            place = rw all (omega (arith, here, below_more x (x + 1) l (omega arith), below_insert x (x + 1) l up));
           }

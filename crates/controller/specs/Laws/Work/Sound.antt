@@ -1,15 +1,13 @@
 -- Laws of soundness as sound.rt tests it: its parts, taken together, are the rules' `sound`.
-use Rattle.std.specs.Prelude.{ℕ, Bool, true, false, not, cond, ◌&&◌, ◌||◌, List, ◌≡◌, refl, leb, ltb, eqb}
+use Rattle.std.specs.Prelude.{ℕ, Bool, true, false, not, cond, ◌&&◌, ◌||◌, ◌≡◌, refl, leb, ltb, eqb}
 use Rattle.std.proofs.Math.Bool.{and-eq-true_iff, and-true, and-false}
 use Rattle.std.proofs.Common.{◌∙◌, leb-true, leb-false, lt-ltb, le-ltb}
 use Rattle.wire.specs.Frame.{round_fits}
 use Rattle.wire.specs.Numbers.{listed}
-use Rattle.controller.specs.Fields.{whole_of, bare}
 use Rattle.controller.specs.Laws.State.{sound_list_gives}
 use Rattle.controller.specs.Lists.{mem}
 use Rattle.controller.specs.State.{view, sound_list, sound_said, sound_empty, sound_beside, sound_rules, sound}
 use Rattle.controller.specs.Work.Sound.{empty_sound, bits_sound, fields_sound, lists_sound}
-use Rattle.controller.specs.declared.state.Fields.{Fields}
 use Rattle.controller.specs.declared.state.State.{State}
 
 -- "b where a holds" is "not a, or b"
@@ -45,25 +43,22 @@ lists_sound_heard s h =
     let both = (and-eq-true_iff _ (sound_list s.echoes)).0 h in
     ((and-eq-true_iff (sound_list s.heard) (sound_list s.candidates)).0 both.0).0
 
-module _ (f : Fields) (h c e p : List ℕ) where
-  abbrev state : State
-  state = whole_of f h c e p
-
+module _ (s : State) where
   -- what is tested where the own number is heard
   abbrev pub left : Bool
-  left = fields_sound f && not (eqb f.own 0) && sound_beside f.own (listed state.heard) p
+  left = fields_sound s && not (eqb s.own 0) && sound_beside s.own (listed s.heard) s.since
 
   -- a sound list is empty exactly if it has no used place
-  empty_sound_lem : lists_sound state ≡ true → sound_empty (view state) ≡ empty_sound f
+  empty_sound_lem : lists_sound s ≡ true → sound_empty (view s) ≡ empty_sound s
   empty_sound_lem t =
-      let both = (and-eq-true_iff _ (sound_list state.echoes)).0 t in
-      let joined = (sound_list_gives state.candidates ((and-eq-true_iff (sound_list state.heard) _).0 both.0).1).used in
-      let echoed = (sound_list_gives state.echoes both.1).used in
-      rw (joined, echoed, until_or f.round 2, until_or f.round 1)
+      let both = (and-eq-true_iff _ (sound_list s.echoes)).0 t in
+      let joined = (sound_list_gives s.candidates ((and-eq-true_iff (sound_list s.heard) _).0 both.0).1).used in
+      let echoed = (sound_list_gives s.echoes both.1).used in
+      rw (joined, echoed, until_or s.round 2, until_or s.round 1)
 
-  pub sound_parts : sound state ≡ (lists_sound state && (mem f.own (listed state.heard) && left))
+  pub sound_parts : sound s ≡ (lists_sound s && (mem s.own (listed s.heard) && left))
   unfolding sound_rules sound
   sound_parts =
-      reorder (round_fits f.round) (not (eqb f.own 0)) (mem f.own (listed state.heard)) (lists_sound state)
-      (sound_said (bare f)) (sound_empty (view state)) (bits_sound f) (sound_beside f.own (listed state.heard) p)
-      ∙ where_both (lists_sound state) _ _ (λ t. rw (empty_sound_lem t))
+      reorder (round_fits s.round) (not (eqb s.own 0)) (mem s.own (listed s.heard)) (lists_sound s)
+      (sound_said (view s)) (sound_empty (view s)) (bits_sound s) (sound_beside s.own (listed s.heard) s.since)
+      ∙ where_both (lists_sound s) _ _ (λ t. rw (empty_sound_lem t))

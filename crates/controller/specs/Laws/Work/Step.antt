@@ -1,11 +1,12 @@
 -- Laws of the step as the code makes it: what it finds, and that the stored state it leaves is the one that the rules give.
-use Rattle.std.specs.Prelude.{ℕ, ◌+◌, ◌/◌, ◌≤◌, ◌<◌, Bool, false, cond, ◌&&◌, List, [], refl, eqb, get_or}
+use Rattle.std.specs.Prelude.{ℕ, ◌+◌, ◌/◌, ◌≤◌, ◌<◌, Bool, false, cond, ◌&&◌, List, refl, eqb, get_or}
 use Rattle.std.proofs.Math.Bool.{true}
-use Rattle.std.proofs.Common.{true≢false, inl, inr, ◌∙◌, arith, leb-true, le-leb, ne_eqb}
+use Rattle.std.proofs.Common.{[], true≢false, inl, inr, ◌∙◌, arith, leb-true, le-leb, ne_eqb}
 use Rattle.std.proofs.Math.Path.{◌≡◌, sym, ap}
 use Rattle.std.proofs.Math.Dec.{leb}
 use Rattle.std.proofs.Math.ListN.{length, get_or-eq_default}
 use Rattle.wire.specs.Frame.{kind_of}
+use Rattle.wire.specs.Heads.{Short}
 use Rattle.wire.specs.Laws.Numbers.{listed_stored}
 use Rattle.wire.specs.Limits.{max_numbers}
 use Rattle.wire.specs.Numbers.{stored, listed}
@@ -13,7 +14,6 @@ use Rattle.wire.specs.Found.{found}
 use Rattle.wire.specs.Notes.{found_by}
 use Rattle.wire.specs.Tray.{well_formed, entries}
 use Rattle.wire.specs.declared.frame.Numbers.{Numbers}
-use Rattle.controller.specs.Work.Lists.{in_places}
 use Rattle.controller.specs.Lists.{In}
 use Rattle.controller.specs.State.{View, Rotor, view, stored_state, sound_rules, undecided, bit_part, state_from}
 use Rattle.controller.specs.Received.{Received, ReceivedLists, senders, says, lists}
@@ -21,16 +21,16 @@ use Rattle.controller.specs.Rotation.{roster, candidates_after, decides, king_af
 use Rattle.controller.specs.Bit.{phase, bit_taken, decision_after, value_said, value_two_thirds, proposal}
 use Rattle.controller.specs.Rules.{make_roster, make_propose, make_turn, next}
 use Rattle.controller.specs.Work.Received.{received_by, Ready, CountsBits}
-use Rattle.controller.specs.Work.Tally.{candidates_of, echoes_of}
+use Rattle.controller.specs.Work.Tally.{candidates_of, echoes_of, GrowsLists}
 use Rattle.controller.specs.Work.Bit.{proposed_from, TurnsBit}
-use Rattle.controller.specs.Work.Step.{Grows, named_state, Makes}
+use Rattle.controller.specs.Work.Step.{named_state, Makes}
 use Rattle.controller.specs.Laws.Lists.{true_or_false, keep_length}
-use Rattle.controller.specs.Laws.State.{rules_give, rules_stored}
+use Rattle.controller.specs.Laws.State.{rules_give, rules_round, rules_stored}
 use Rattle.controller.specs.Laws.Work.Ready.{ready_size, ready_short}
-use Rattle.controller.specs.Laws.Rules.{kind_init, bit_taken_bound, heard_known, step_kind_roster, step_kind_value, step_kind_propose, step_kind_turn}
+use Rattle.controller.specs.Laws.Rules.{kind_init, kind_before, bit_taken_bound, heard_known}
+use Rattle.controller.specs.Laws.Rules.{step_kind_roster, step_kind_value, step_kind_propose, step_kind_turn}
 use Rattle.controller.specs.declared.state.State.{State}
-use Rattle.controller.specs.declared.received.Counts.{Counts}
-use Rattle.controller.specs.declared.tally.Lists.{Lists}
+use Rattle.controller.specs.declared.counts.Counts.{Counts}
 use Rattle.controller.specs.declared.bit.Turn.{Turn}
 
 -- ---- what a step finds
@@ -84,12 +84,6 @@ makes s b w t e candidates echoes made =
       kept = λ q. absurd (true≢false q);
     }
 
--- the state s in the making of round 3 + 3r, before (c)
-abbrev pub grown_state : State → Lists → ℕ → List ℕ → List ℕ → State
-grown_state s l bit c e =
-    state_from s.own (s.round + 1) (record { own = bit; said = bit; strong = s.strong; decision = s.decision })
-    s.king s.heard (in_places l.candidates c) (in_places l.echoes e) s.since
-
 -- what is proposed, from the counts of values
 proposed_is : (r : Received) (n : Counts) (h : ℕ) → CountsBits 3 r n → h ≡ length r.heard → proposed_from n.zeros n.ones h ≡ proposal r
 unfolding proposed_from proposal value_two_thirds
@@ -108,6 +102,17 @@ module _ {s : State} {b f : List ℕ} (r : Ready s b f) where
       let v = rules_give s r.sound in
       let none : listed s.echoes ≡ [] = v.no_echoes (omega (arith, kind_init s.round v.early k)) in
       ap (λ (n : Numbers). n.at) (sym (kept s r.sound).echoes ∙ ap stored none)
+
+  -- before a frame of kind 4 or 5 is made, the frames list nothing
+  pub ready_short_round : (k : ℕ) → k < 2 → kind_of (s.round + 1) ≡ 4 + k → Short s.round
+  ready_short_round k few next =
+      let kind = kind_before s.round k (rules_give s r.sound).early next in
+      record { fits = rules_round s r.sound; least = omega arith; most = omega arith }
+
+  -- and their bits are counted under the kind before that one
+  pub counted : {n : Counts} (k : ℕ) → kind_of (s.round + 1) ≡ 4 + k → CountsBits (kind_of s.round) (received_by s b) n
+      → CountsBits (3 + k) (received_by s b) n
+  counted k next counts = rw (kind_before s.round k (rules_give s r.sound).early next) at counts
 
   roster_few : length (roster (received_by s b)) ≤ max_numbers
   unfolding roster
@@ -170,46 +175,44 @@ value_ends v r active small = rw active (refl, pick (leb (length (candidates_aft
     pick true = rw (ne_eqb (bit_taken v r) 2 (λ q. omega arith))
     pick false = rw active
 
-module _ {s : State} {b f : List ℕ} {l : Lists} {bit : ℕ} {c e : List ℕ} (g : Grows s b f l bit c e) where
-  pub value_made : (t : State) → l.fits ≡ true → t ≡ named_state (grown_state s l bit c e) (s.round / 3) → Makes s b true t
+-- a state t whose lists have grown, in the making of round 3 + 3r with the bit that is taken, before (c)
+abbrev pub valued : State → ℕ → State
+valued t bit =
+    state_from t.own (t.round + 1) (record { own = bit; said = bit; strong = t.strong; decision = t.decision })
+    t.king t.heard t.candidates t.echoes t.since
+
+module _ {s : State} {b f : List ℕ} (r : Ready s b f) (kind : kind_of (s.round + 1) ≡ 3) {fits : Bool} {t : State} (grows : GrowsLists s b fits t) where
+  pub value_made : (bit : ℕ) (u : State) → fits ≡ true → bit ≡ bit_taken (view s) (received_by s b) → u ≡ named_state (valued t bit) (s.round / 3)
+      → Makes s b true u
   unfolding named_state
-  value_made t fits named =
+  value_made bit u fit taken named =
       let v = view s in
       let received = received_by s b in
-      let grows = g.lists in
-      let taken = g.taken in
-      let next-is = step_kind_value v received g.kind in
-      let all : (leb (length (candidates_of s b)) max_numbers && leb (length (echoes_of s b)) max_numbers) ≡ true = sym grows.fits ∙ fits in
-      let heard = heard_made g.ready in
-      let echoes : ◌≡◌ {A = Numbers} (record { len = l.echoes; at = e }) (stored (echoes_of s b)) = grows.echoes fits in
-      let candidates : ◌≡◌ {A = Numbers} (record { len = l.candidates; at = c }) (stored (candidates_of s b)) = grows.candidates fits in
-      let len : l.candidates ≡ length (candidates_of s b) = ap (λ (m : Numbers). m.len) candidates in
-      let list : listed (record { len = l.candidates; at = c }) ≡ candidates_of s b = ap listed candidates ∙ listed_stored (candidates_of s b) in
-      let done = named_state (grown_state s l bit c e) (s.round / 3) in
-      let named-king = king_named g.ready.active (phase v) v.rotor (lists received) in
-      let king : done.king ≡ king_after (undecided v) (phase v) v.rotor (lists received) = rw list (sym named-king) in
-      let small = bit_taken_bound v received (rules_give s g.ready.sound).bit in
-      let ends = value_ends v received g.ready.active small in
-      let said : done.said ≡ value_said v received = rw (len, taken) (sym ends.1) in
-      let decision : done.decision ≡ decision_after v received = rw (len, taken) (sym ends.0) in
+      let next-is = step_kind_value v received kind in
+      let all : (leb (length (candidates_of s b)) max_numbers && leb (length (echoes_of s b)) max_numbers) ≡ true = sym grows.fits ∙ fit in
+      let heard = heard_made r in
+      let grown = grows.grown fit in
+      let after = state_from s.own s.round (bit_part s) s.king s.heard (stored (candidates_of s b)) (stored (echoes_of s b)) s.since in
+      let done = named_state (valued after bit) (s.round / 3) in
+      let named-king = king_named r.active (phase v) v.rotor (lists received) in
+      let king : done.king ≡ king_after (undecided v) (phase v) v.rotor (lists received) = rw (listed_stored (candidates_of s b)) (sym named-king) in
+      let small = bit_taken_bound v received (rules_give s r.sound).bit in
+      let ends = value_ends v received r.active small in
+      let said : done.said ≡ value_said v received = rw taken (sym ends.1) in
+      let decision : done.decision ≡ decision_after v received = rw taken (sym ends.0) in
       record {
         fits = sym all ∙ rw next-is;
-        made = λ q. named ∙ (λ i. state_from s.own (s.round + 1) (record { own = taken i; said = said i; strong = s.strong; decision = decision i })
-            (king i) (heard i) (candidates i) (echoes i) s.since) ∙ ap (λ (u : View). stored_state u s.since) (sym next-is);
+        made = λ q. named ∙ ap (λ (x : State). named_state (valued x bit) (s.round / 3)) grown
+            ∙ (λ i. state_from s.own (s.round + 1) (record { own = taken i; said = said i; strong = s.strong; decision = decision i })
+            (king i) (heard i) (stored (candidates_of s b)) (stored (echoes_of s b)) s.since) ∙ ap (λ (u : View). stored_state u s.since) (sym next-is);
         kept = λ q. absurd (true≢false q);
       }
 
   -- lists that do not fit leave all as it was
-  pub value_refused : l.fits ≡ false
-      → Makes s b false (state_from s.own s.round (bit_part s)
-      s.king s.heard (in_places s.candidates.len c) (in_places s.echoes.len e) s.since)
-  value_refused fits =
-      let stay = g.lists.kept fits in
-      let candidates = stay.0 in
-      let echoes = stay.1 in
+  pub value_refused : fits ≡ false → Makes s b false t
+  value_refused fit =
       record {
-        fits = sym fits ∙ g.lists.fits ∙ rw (step_kind_value (view s) (received_by s b) g.kind);
+        fits = sym fit ∙ grows.fits ∙ rw (step_kind_value (view s) (received_by s b) kind);
         made = λ q. absurd (true≢false (sym q));
-        kept = λ q i. state_from s.own s.round (bit_part s)
-            s.king s.heard (in_places s.candidates.len (candidates i)) (in_places s.echoes.len (echoes i)) s.since;
+        kept = λ q. grows.kept fit;
       }

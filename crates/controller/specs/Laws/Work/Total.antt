@@ -3,7 +3,7 @@ use Rattle.std.specs.Prelude.{ℕ, zero, suc, ◌+◌, ◌≤◌, ◌<◌, Bool,
 use Rattle.std.proofs.Common.{inl, inr, sym, arith}
 use Rattle.std.proofs.Math.Decide.{ℕ_discrete}
 use Rattle.controller.specs.Lists.{count_if}
-use Rattle.controller.specs.Work.Opened.{total}
+use Rattle.controller.specs.Work.OpenList.{total}
 use Rattle.controller.specs.Laws.Lists.{true_or_false}
 
 pub total_same : (f g : ℕ → ℕ) (n : ℕ) → ((j : ℕ) → j < n → f j ≡ g j) → total f n ≡ total g n

@@ -4,30 +4,13 @@
 --     Node t p          node p of the tree t is the lesser of the two below it
 --     OrderedBut t m i  so is each inner node that does not stand above node i
 --     LeafOf t m j      a leaf at or below node j that has its key
-use Rattle.std.specs.Prelude.{ℕ, zero, suc, ◌+◌, ◌*◌, ◌/◌, ◌%◌, ◌≤◌, ◌<◌, List, ◌⊎◌, ◌≢◌, ◌≡◌, refl, length, get_or, set}
-use Rattle.std.proofs.Common.{inl, inr, sym, ap, ◌∙◌, arith, lt-ltb, le-ltb, eq-eqb, ne_eqb, get_or-set_same, get_or-set_other}
+use Rattle.std.specs.Prelude.{ℕ, zero, suc, ◌+◌, ◌*◌, ◌/◌, ◌%◌, ◌≤◌, ◌<◌, List, ◌⊎◌, ◌≢◌, ◌≡◌, refl, min, length, get_or, set}
+use Rattle.std.proofs.Common.{inl, inr, sym, ap, ◌∙◌, arith, eq-eqb, ne_eqb, get_or-set_same, get_or-set_other}
 use Rattle.std.proofs.Math.Decide.{ℕ_discrete, dec_lt}
-use Rattle.controller.specs.Work.Heads.{lesser_of, sibling_of, Ordered}
+use Rattle.std.proofs.Math.Nat.{min_comm, min-eq_left, min-eq_right}
+use Rattle.controller.specs.Work.Heads.{sibling_of, Ordered}
 
--- ---- the lesser key, and the sibling
-
-lesser_left : (x y : ℕ) → lesser_of x y ≤ x
-lesser_left x y = elim (dec_lt x y) [ yes h ↦ rw (lt-ltb x y h) (omega arith) | no h ↦ rw (le-ltb x y (omega arith)) (omega arith) ]
-
-lesser_right : (x y : ℕ) → lesser_of x y ≤ y
-lesser_right x y = elim (dec_lt x y) [ yes h ↦ rw (lt-ltb x y h) (omega arith) | no h ↦ rw (le-ltb x y (omega arith)) (omega arith) ]
-
-pub lesser_one : (x y : ℕ) → (lesser_of x y ≡ x) ⊎ (lesser_of x y ≡ y)
-lesser_one x y = elim (dec_lt x y) [ yes h ↦ inl (rw (lt-ltb x y h)) | no h ↦ inr (rw (le-ltb x y (omega arith))) ]
-
-lesser_swap : (x y : ℕ) → lesser_of x y ≡ lesser_of y x
-lesser_swap x y = elim (dec_lt x y) [
-  | yes h ↦ rw (lt-ltb x y h, le-ltb y x (omega arith))
-  | no h ↦ elim (dec_lt y x) [
-    | yes k ↦ rw (le-ltb x y (omega arith), lt-ltb y x k)
-    | no k ↦ rw (le-ltb x y (omega arith), le-ltb y x (omega arith)) (omega arith)
-  ]
-]
+-- ---- the sibling
 
 -- the two nodes below node p are siblings
 sibling_even : (i : ℕ) → i % 2 ≡ 0 → sibling_of i ≡ i + 1
@@ -75,25 +58,25 @@ above_low p i a = omega (arith, a.1, up_low a.0 (i / 2))
 -- ---- the order of the tree
 
 abbrev pub Node : List ℕ → ℕ → Type 0
-Node t p = get_or t p 0 ≡ lesser_of (get_or t (2 * p) 0) (get_or t (2 * p + 1) 0)
+Node t p = get_or t p 0 ≡ min (get_or t (2 * p) 0) (get_or t (2 * p + 1) 0)
 
 abbrev pub OrderedBut : List ℕ → ℕ → ℕ → Type 0
 OrderedBut t m i = (p : ℕ) → 0 < p → p < m → Node t p ⊎ Above p i
 
 -- another key of node i matters for node i and the one above it
-pub node_set : (t : List ℕ) (p i v : ℕ) → p ≢ i → i / 2 ≢ p → Node t p → Node (set t i v) p
+node_set : (t : List ℕ) (p i v : ℕ) → p ≢ i → i / 2 ≢ p → Node t p → Node (set t i v) p
 node_set t p i v d e n =
     rw (get_or-set_other t i p v 0 d, get_or-set_other t i (2 * p) v 0 (omega arith), get_or-set_other t i (2 * p + 1) v 0 (omega arith)) n
 
 -- node p, made anew
-pub node_made : (t : List ℕ) (p v : ℕ) → 0 < p → p < length t → v ≡ lesser_of (get_or t (2 * p) 0) (get_or t (2 * p + 1) 0) → Node (set t p v) p
+node_made : (t : List ℕ) (p v : ℕ) → 0 < p → p < length t → v ≡ min (get_or t (2 * p) 0) (get_or t (2 * p + 1) 0) → Node (set t p v) p
 node_made t p v some inside e =
     rw (get_or-set_same t p v 0 inside, get_or-set_other t p (2 * p) v 0 (omega arith), get_or-set_other t p (2 * p + 1) v 0 (omega arith)) e
 
 -- a node and its sibling are the two nodes below one
-siblings_lesser : (t : List ℕ) (i p : ℕ) → 0 < i → i / 2 ≡ p
-    → lesser_of (get_or t i 0) (get_or t (sibling_of i) 0) ≡ lesser_of (get_or t (2 * p) 0) (get_or t (2 * p + 1) 0)
-siblings_lesser t i p some e = elim (ℕ_discrete (i % 2) 0) [
+siblings_least : (t : List ℕ) (i p : ℕ) → 0 < i → i / 2 ≡ p
+    → min (get_or t i 0) (get_or t (sibling_of i) 0) ≡ min (get_or t (2 * p) 0) (get_or t (2 * p + 1) 0)
+siblings_least t i p some e = elim (ℕ_discrete (i % 2) 0) [
   | yes z ↦
       let left : i ≡ 2 * p = omega arith in
       let right : sibling_of i ≡ 2 * p + 1 = omega (arith, sibling_even i z) in
@@ -101,7 +84,7 @@ siblings_lesser t i p some e = elim (ℕ_discrete (i % 2) 0) [
   | no z ↦
       let right : i ≡ 2 * p + 1 = omega arith in
       let left : sibling_of i ≡ 2 * p = omega (arith, sibling_odd i (omega arith)) in
-      rw (left, right) (lesser_swap (get_or t (2 * p + 1) 0) (get_or t (2 * p) 0))
+      rw (left, right) (min_comm (get_or t (2 * p + 1) 0) (get_or t (2 * p) 0))
 ]
 
 pub ordered_but : (t : List ℕ) (m i : ℕ) → Ordered t m → OrderedBut t m i
@@ -128,10 +111,10 @@ ordered_beside t m i l d e o p a b = elim (o p a b) [
 ]
 
 -- the node above node i is made anew
-pub ordered_climbs : (t : List ℕ) (m i v : ℕ) → 1 < i → i / 2 < length t → v ≡ lesser_of (get_or t i 0) (get_or t (sibling_of i) 0) → OrderedBut t m i
+pub ordered_climbs : (t : List ℕ) (m i v : ℕ) → 1 < i → i / 2 < length t → v ≡ min (get_or t i 0) (get_or t (sibling_of i) 0) → OrderedBut t m i
     → OrderedBut (set t (i / 2) v) m (i / 2)
 ordered_climbs t m i v some inside e o p a b = elim (ℕ_discrete p (i / 2)) [
-  | yes s ↦ inl (rw s (node_made t (i / 2) v (omega arith) inside (e ∙ siblings_lesser t i (i / 2) (omega arith) refl)))
+  | yes s ↦ inl (rw s (node_made t (i / 2) v (omega arith) inside (e ∙ siblings_least t i (i / 2) (omega arith) refl)))
   | no d ↦ elim (ℕ_discrete (i / 2 / 2) p) [
     | yes s ↦ inr (0, s)
     | no f ↦ elim (o p a b) [
@@ -170,9 +153,12 @@ leaf_from t m i o (suc n) j h above inside = elim (dec_lt j m) [
   | no l ↦ record { leaf = j; steps = 0; low = omega arith; high = inside; under = refl; same = refl }
   | yes l ↦ elim (o j (omega arith) l) [
     | inr r ↦ absurd (omega (arith, above_low j i r))
-    | inl s ↦ elim (lesser_one (get_or t (2 * j) 0) (get_or t (2 * j + 1) 0)) [
-      | inl e ↦ leaf_up j (2 * j) (omega arith) (sym (s ∙ e)) (leaf_from t m i o n (2 * j) (omega arith) (omega arith) (omega arith))
-      | inr e ↦ leaf_up j (2 * j + 1) (omega arith) (sym (s ∙ e)) (leaf_from t m i o n (2 * j + 1) (omega arith) (omega arith) (omega arith))
+    | inl s ↦ elim (dec_lt (get_or t (2 * j) 0) (get_or t (2 * j + 1) 0)) [
+      | yes lt ↦
+          leaf_up j (2 * j) (omega arith) (sym (s ∙ min-eq_left (omega arith))) (leaf_from t m i o n (2 * j) (omega arith) (omega arith) (omega arith))
+      | no le ↦
+          leaf_up j (2 * j + 1) (omega arith) (sym (s ∙ min-eq_right (omega arith)))
+          (leaf_from t m i o n (2 * j + 1) (omega arith) (omega arith) (omega arith))
     ]
   ]
 ]
@@ -190,8 +176,8 @@ root_from t m o (suc n) l h some inside = elim (dec_lt 1 l) [
       let rest = root_from t m o n p (omega arith) (omega arith) (omega arith) in
       let node = o p (omega arith) (omega arith) in
       elim (ℕ_discrete (l % 2) 0) [
-        | yes z ↦ let left : l ≡ 2 * p = omega arith in rw left (omega (arith, node, rest, lesser_left (get_or t (2 * p) 0) (get_or t (2 * p + 1) 0)))
-        | no z ↦ let right : l ≡ 2 * p + 1 = omega arith in rw right (omega (arith, node, rest, lesser_right (get_or t (2 * p) 0) (get_or t (2 * p + 1) 0)))
+        | yes z ↦ let left : l ≡ 2 * p = omega arith in rw left (omega (arith, node, rest))
+        | no z ↦ let right : l ≡ 2 * p + 1 = omega arith in rw right (omega (arith, node, rest))
       ]
 ]
 

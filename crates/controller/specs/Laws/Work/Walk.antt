@@ -1,16 +1,16 @@
 -- Laws of the walk: what it settles, from one number to the next, and when all lists have ended.
-use Rattle.std.specs.Prelude.{ℕ, suc, ◌+◌, ◌/◌, ◌≤◌, ◌<◌, true, false, List, [], ◌∷◌, ◌≡◌, refl, ltb, get_or, take}
-use Rattle.std.proofs.Common.{true≢false, inl, inr, sym, ap, ◌∙◌, arith, lt-ltb, le-ltb}
+use Rattle.std.specs.Prelude.{ℕ, suc, ◌+◌, ◌/◌, ◌≤◌, ◌<◌, true, List, [], ◌∷◌, ◌≡◌, refl, ltb, get_or, Some}
+use Rattle.std.proofs.Common.{inl, inr, sym, ap, ◌∙◌, arith, lt-ltb, le-ltb}
 use mathlib.Core.List.Memᴰ
 use Rattle.std.proofs.Math.Decide.{dec_lt}
-use Rattle.wire.specs.Numbers.{stored}
+use Rattle.wire.specs.Numbers.{listed}
 use Rattle.controller.specs.Lists.{In, Rising}
-use Rattle.controller.specs.State.{sound_list}
 use Rattle.controller.specs.Work.Lists.{below}
 use Rattle.controller.specs.Thirds.{third, two_thirds}
-use Rattle.controller.specs.Work.Opened.{end_mark, open_list, Opens, weighed}
-use Rattle.controller.specs.Work.Heads.{slots, Standing, Ordered, Roomy}
-use Rattle.controller.specs.Work.Tally.{Settles, SettlesOn, Sorts}
+use Rattle.controller.specs.Work.OpenList.{end_mark, open_list, Opens, weighed}
+use Rattle.controller.specs.Work.Opened.{weighed_in}
+use Rattle.controller.specs.Work.Heads.{slots, Standing, Ordered, keys_of, places_of, RoomyIn, StandingIn}
+use Rattle.controller.specs.Work.Tally.{Settles, Startable, Sorts}
 use Rattle.controller.specs.Laws.Lists.{count_none}
 use Rattle.controller.specs.Laws.Work.Settle.{holds_other, below_later}
 use Rattle.controller.specs.Laws.State.{sound_list_test}
@@ -19,6 +19,8 @@ use Rattle.controller.specs.Laws.Work.Lists.{below_more}
 use Rattle.controller.specs.Laws.Thirds.{third_is, two_thirds_is}
 use Rattle.controller.specs.Laws.Work.Tree.{root_least}
 use Rattle.controller.specs.Laws.Work.Weights.{weighed_none, weighed_ended}
+use Rattle.controller.specs.declared.heads.Heads.{Heads}
+use Rattle.controller.specs.declared.open_list.OpenLists.{OpenLists}
 use Rattle.controller.specs.declared.tally.Settled.{Settled}
 
 -- ---- what is settled, from one number to a later one
@@ -31,54 +33,44 @@ module _ (v : ℕ → ℕ) (h : ℕ) (c : List ℕ) (pos : 0 < h) where
   not_two_thirds : (y : ℕ) → v y ≡ 0 → two_thirds (v y) h ≡ true → ⊥
   not_two_thirds y e t = omega (arith, (two_thirds_is (v y) h).0 t)
 
-  pub settles_on : (x z : ℕ) {e k : List ℕ} {r : Settled} → x ≤ z → ((y : ℕ) → x ≤ y → y < z → v y ≡ 0) → Settles v h c x e k r → Settles v h c z e k r
-  settles_on x z {k = k} {r = r} le none g = record {
-    echoes = holds_other g.echoes
-        (λ y p. (omega (arith, p.0), p.1))
-        (λ y p. elim (dec_lt y x) [ yes l ↦ (l, p.1) | no l ↦ absurd (not_third y (none y (omega arith) p.0) p.1.0) ]);
-    candidates = holds_other g.candidates
-        (λ y p. below_later le p)
-        (λ y p. elim p [
-          | inl i ↦ inl i
-          | inr t ↦ inr (elim (dec_lt y x) [ yes l ↦ (l, t.1) | no l ↦ absurd (not_two_thirds y (none y (omega arith) t.0) t.1) ])
-        ]);
-    place = omega (arith, g.place, below_more x z (take r.candidates k) le);
-    fits = g.fits;
-  }
+  pub settles_on : (x z : ℕ) {r : Settled} → x ≤ z → ((y : ℕ) → x ≤ y → y < z → v y ≡ 0) → Settles v h c x r → Settles v h c z r
+  settles_on x z {r = r} le none g =
+      record {
+        echoes = holds_other g.echoes
+            (λ y p. (omega (arith, p.0), p.1))
+            (λ y p. elim (dec_lt y x) [ yes l ↦ (l, p.1) | no l ↦ absurd (not_third y (none y (omega arith) p.0) p.1.0) ]);
+        candidates = holds_other g.candidates
+            (λ y p. below_later le p)
+            (λ y p. elim p [
+              | inl i ↦ inl i
+              | inr t ↦ inr (elim (dec_lt y x) [ yes l ↦ (l, t.1) | no l ↦ absurd (not_two_thirds y (none y (omega arith) t.0) t.1) ])
+            ]);
+        place = omega (arith, g.place, below_more x z (listed r.candidates) le);
+      }
 
-  pub settles_all : (x : ℕ) {e k : List ℕ} {r : Settled} → ((y : ℕ) → x ≤ y → v y ≡ 0) → Settles v h c x e k r → Sorts v h c e k r
-  settles_all x none g = record {
-    echoes = λ fits. holds_other g.echoes (λ y p. p.1)
-        (λ y p. elim (dec_lt y x) [ yes l ↦ (l, p) | no l ↦ absurd (not_third y (none y (omega arith)) p.0) ]);
-    candidates = λ fits. holds_other g.candidates
+  pub settles_all : (x : ℕ) {r : Settled} → ((y : ℕ) → x ≤ y → v y ≡ 0) → Settles v h c x r → Sorts v h c (Some tt) r
+  settles_all x none g = (
+    holds_other g.echoes (λ y p. p.1) (λ y p. elim (dec_lt y x) [ yes l ↦ (l, p) | no l ↦ absurd (not_third y (none y (omega arith)) p.0) ]),
+    holds_other g.candidates
         (λ y p. elim p [ inl i ↦ inl i | inr t ↦ inr t.1 ])
         (λ y p. elim p [
           | inl i ↦ inl i
           | inr t ↦ inr (elim (dec_lt y x) [ yes l ↦ (l, t) | no l ↦ absurd (not_two_thirds y (none y (omega arith)) t) ])
-        ]);
-    crowded = λ t. absurd (true≢false (sym g.fits ∙ t));
-  }
-
--- where there are too many, that is all that is told
-pub settles_crowd : (v : ℕ → ℕ) (h : ℕ) (c : List ℕ) (x : ℕ) {e k : List ℕ} {r : Settled} → SettlesOn v h c x e k r → r.fits ≡ false → Sorts v h c e k r
-settles_crowd v h c x g out = record {
-  echoes = λ fits. absurd (true≢false (sym fits ∙ out));
-  candidates = λ fits. absurd (true≢false (sym fits ∙ out));
-  crowded = g.crowded;
-}
+        ]),
+  )
 
 -- before the walk nothing is echoed, and the candidates are those that were
-pub settles_none : (v : ℕ → ℕ) (h n : ℕ) (e k : List ℕ) → e ≡ (stored []).at → sound_list (record { len = n; at = k }) ≡ true
-    → Settles v h (take n k) 0 e k (record { echoed = 0; candidates = n; place = 0; fits = true })
-settles_none v h n e k empty sound = record {
-  echoes = rw empty (record {
-    sound = sound_list_test [] (record { short = omega arith; rises = tt; positive = λ y i. absurd (Memᴰ.not-nil i) });
-    has = λ y. (λ i. absurd (Memᴰ.not-nil i), λ p. absurd (omega (arith, p.0)));
-  });
-  candidates = record { sound = sound; has = λ y. (λ i. inl i, λ p. elim p [ inl i ↦ i | inr t ↦ absurd (omega (arith, t.0)) ]) };
-  place = omega arith;
-  fits = refl;
-}
+pub settles_none : (v : ℕ → ℕ) {h : ℕ} {r : Settled} → Startable r h → Settles v h (listed r.candidates) 0 r
+settles_none v start =
+    record {
+      echoes = rw start.empty (record {
+        sound = sound_list_test [] (record { short = omega arith; rises = tt; positive = λ y i. absurd (Memᴰ.not-nil i) });
+        has = λ y. (λ i. absurd (Memᴰ.not-nil i), λ p. absurd (omega (arith, p.0)));
+      });
+      candidates =
+          record { sound = start.candidates; has = λ y. (λ i. inl i, λ p. elim p [ inl i ↦ i | inr t ↦ absurd (omega (arith, t.0)) ]) };
+      place = omega (arith, start.place);
+    }
 
 -- ---- the heads, from one number to a later one
 
@@ -113,11 +105,11 @@ module _ (o b s n w : List ℕ) (m : ℕ) (opens : Opens o b s n w m) (x : ℕ) 
   head j h low = omega (arith, low j h, stands_head (opens.rises j h) (omega (arith, opens.few)) (stands j h))
 
   -- so no number from x up to z is in a list
-  pub standing_none : (z : ℕ) → ((j : ℕ) → j < m → z ≤ get_or t (m + j) 0 / slots) → (y : ℕ) → x ≤ y → y < z → weighed o b s n w m y ≡ 0
+  standing_none : (z : ℕ) → ((j : ℕ) → j < m → z ≤ get_or t (m + j) 0 / slots) → (y : ℕ) → x ≤ y → y < z → weighed o b s n w m y ≡ 0
   standing_none z low y from to =
       weighed_none o b s n w m y (λ j h. below_none x z y (open_list o b s n j) (opens.rises j h) (head j h low) from to)
 
-  pub standing_on : (z : ℕ) → x ≤ z → ((j : ℕ) → j < m → z ≤ get_or t (m + j) 0 / slots) → Standing o b s n m z t p i
+  standing_on : (z : ℕ) → x ≤ z → ((j : ℕ) → j < m → z ≤ get_or t (m + j) 0 / slots) → Standing o b s n m z t p i
   standing_on z from low j h =
       let l = open_list o b s n j in
       let e : below z l ≡ below x l = below_stays x z l (opens.rises j h) from (head j h low) in
@@ -126,38 +118,37 @@ module _ (o b s n w : List ℕ) (m : ℕ) (opens : Opens o b s n w m) (x : ℕ) 
 -- ---- the walk's turns
 
 -- what the walk knows when it looks at the first key f
-pub record Walking (o b s n w : List ℕ) (m h : ℕ) (c t p i e k : List ℕ) (r : Settled) (f : ℕ) : Type 0 where
-  pub room : Roomy t p i
-  pub first : f ≡ get_or t 1 0
-  pub ordered : Ordered t m
-  pub standing : Standing o b s n m (f / slots) t p i
-  pub settles : Settles (weighed o b s n w m) h c (f / slots) e k r
+pub record Walking (o : OpenLists) (h : ℕ) (c : List ℕ) (g : Heads) (r : Settled) (f : ℕ) : Type 0 where
+  pub room : RoomyIn g
+  pub first : f ≡ get_or g.tree 1 0
+  pub ordered : Ordered g.tree o.len
+  pub standing : StandingIn o (f / slots) g
+  pub settles : Settles (weighed_in o) h c (f / slots) r
 
-module _ (o b s n w : List ℕ) (m h : ℕ) (c : List ℕ) (opens : Opens o b s n w m) (pos : 0 < h) where
+module _ (o : OpenLists) (h : ℕ) (c : List ℕ) (pos : 0 < h) where
   -- from a number on to the first key
-  module _ (x : ℕ) (t p i e k : List ℕ) (r : Settled)
-      (room : Roomy t p i)
-      (ordered : Ordered t m)
-      (stands : Standing o b s n m x t p i)
-      (settles : Settles (weighed o b s n w m) h c x e k r)
-      (later : x ≤ get_or t 1 0 / slots)
+  module _ (x : ℕ) (g : Heads) (r : Settled)
+      (room : RoomyIn g)
+      (ordered : Ordered g.tree o.len)
+      (stands : StandingIn o x g)
+      (settles : Settles (weighed_in o) h c x r)
+      (later : x ≤ get_or g.tree 1 0 / slots)
     where
-      low : (j : ℕ) → j < m → get_or t 1 0 / slots ≤ get_or t (m + j) 0 / slots
-      low j l = omega (arith, root_least t m (m + j) ordered (omega arith) (omega arith))
+      low : (j : ℕ) → j < o.len → get_or g.tree 1 0 / slots ≤ get_or g.tree (o.len + j) 0 / slots
+      low j l = omega (arith, root_least g.tree o.len (o.len + j) ordered (omega arith) (omega arith))
 
-      pub walking_on : Walking o b s n w m h c t p i e k r (get_or t 1 0)
+      pub walking_on : Walking o h c g r (get_or g.tree 1 0)
       walking_on =
           record {
             room = room;
             first = refl;
             ordered = ordered;
-            standing = standing_on o b s n w m opens x t p i stands (get_or t 1 0 / slots) later low;
+            standing = standing_on _ _ _ _ _ _ o.opens x g.tree (keys_of g.ahead) (places_of g.ahead) stands (get_or g.tree 1 0 / slots) later low;
             settles =
-                settles_on (weighed o b s n w m) h c pos x (get_or t 1 0 / slots) later
-                (standing_none o b s n w m opens x t p i stands (get_or t 1 0 / slots) low)
+                settles_on (weighed_in o) h c pos x (get_or g.tree 1 0 / slots) later
+                (standing_none _ _ _ _ _ _ o.opens x g.tree (keys_of g.ahead) (places_of g.ahead) stands (get_or g.tree 1 0 / slots) low)
                 settles;
           }
 
-  pub walking_end : {t p i e k : List ℕ} {r : Settled} {f : ℕ} → Walking o b s n w m h c t p i e k r f → end_mark ≤ f / slots
-      → Sorts (weighed o b s n w m) h c e k r
-  walking_end {f = f} g over = settles_all (weighed o b s n w m) h c pos (f / slots) (λ y from. weighed_ended o b s n w m opens y (omega arith)) g.settles
+  pub walking_end : {g : Heads} {r : Settled} {f : ℕ} → Walking o h c g r f → end_mark ≤ f / slots → Sorts (weighed_in o) h c (Some tt) r
+  walking_end {f = f} g over = settles_all (weighed_in o) h c pos (f / slots) (λ y from. weighed_ended _ _ _ _ _ _ o.opens y (omega arith)) g.settles

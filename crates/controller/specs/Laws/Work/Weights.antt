@@ -3,7 +3,7 @@ use Rattle.std.specs.Prelude.{ℕ, zero, suc, ◌≤◌, ◌<◌, Bool, true, fa
 use Rattle.std.proofs.Common.{arith}
 use Rattle.wire.specs.Limits.{max_numbers}
 use Rattle.controller.specs.Lists.{In, mem}
-use Rattle.controller.specs.Work.Opened.{end_mark, open_list, Opens, weighed}
+use Rattle.controller.specs.Work.OpenList.{end_mark, open_list, Opens, weighed}
 use Rattle.controller.specs.Laws.Lists.{out_mem}
 use Rattle.controller.specs.Laws.Work.Total.{total_none, total_most}
 

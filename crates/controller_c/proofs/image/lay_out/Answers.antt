@@ -4,7 +4,6 @@ use Rattle.std.specs.Prelude.{ℕ, length}
 use Rattle.std.proofs.Math.Path.{◌≡◌, ◌∙◌}
 use Rattle.std.proofs.lemmas.List.Edits.{sets}
 use Rattle.wire.specs.Limits.{max_numbers}
-use Rattle.controller.specs.Fields.{whole_of}
 use Rattle.controller.specs.Laws.State.{sound_rules_lem, since_places}
 use Rattle.controller.specs.declared.state.State.{State}
 use Rattle.std.specs.Prelude.{true}
@@ -49,13 +48,10 @@ put_rotation-requires c =
     let z = lists_sized _ c.requires.0 in
     (record { candidates = z.candidates; echoes = z.echoes }, search rules)
 
-pub put_rounds-requires : goal.put_rounds-requires
-put_rounds-requires c = (since_places _ c.requires.0, search rules)
-
 pub returns : goal.returns
 returns c =
     let a = c.args in
-    let s : State = whole_of a.fields a.heard.now a.candidates.now a.echoes.now a.since.now in
+    let s : State = a.state.now in
     let with_heard = c.put_list.ensures ∙ ap (λ (l : List ℕ). sets l heard_at (list_bytes s.heard)) c.put_head.ensures in
     let with_lists = c.put_rotation.ensures ∙ ap (with_rotation s) with_heard in
     let with_rounds = c.put_rounds.ensures ∙ ap (λ (l : List ℕ). sets l since_at s.since) with_lists in

@@ -6,7 +6,6 @@ use Rattle.std.proofs.Math.Path.{◌≡◌, refl, ◌∙◌}
 use Rattle.std.proofs.lemmas.List.Edits.{sets}
 use Rattle.wire.specs.Frame.{kind_of}
 use Rattle.wire.specs.Words.{Below}
-use Rattle.controller.specs.Fields.{whole_of}
 use Rattle.controller.specs.Laws.Lists.{true_or_false}
 use Rattle.controller.specs.Laws.State.{sound_rules_lem, since_places}
 use Rattle.controller.specs.State.{sound}
@@ -107,7 +106,7 @@ pub returns : goal.returns
 returns c =
     let a = c.args in
     let b = a.image.now in
-    let t : State = whole_of a.fields a.heard.now a.candidates.now a.echoes.now a.since.now in
+    let t : State = a.state.now in
     let s = taken_apart b in
     let old = (sound_image_gives b c.requires.image).state in
     let made = c.requires.made in

@@ -19,12 +19,11 @@ turn l out last b i h e =
     rw (next, e, split) (sets_join out at (number_bytes (get_or l i 0)) (numbers_bytes (drop (i + 1) l)))
 
 pub loop-i-init : goal.loop-i-init
-loop-i-init c = (search rules, refl, rw add-zero)
+loop-i-init c = rw add-zero
 
 pub loop-i-preserved : goal.loop-i-preserved
 loop-i-preserved c =
-    let stored = turn c.args.at.now c.loop-i.image c.put_word.new.s c.args.from c.loop-i.i (search rules) c.put_word.ensures in
-    (search rules, search rules, stored ∙ c.loop-i.invariant.2)
+    turn c.args.at.now c.loop-i.image c.put_word.new.s c.args.from c.loop-i.i (search rules) c.put_word.ensures ∙ c.loop-i.invariant
 
 pub returns : goal.returns
-returns c = rw (drop_of_length-le c.args.at.now {i = c.loop-i.i} (omega arith)) at c.loop-i.invariant.2
+returns c = rw (drop_of_length-le c.args.at.now {i = c.loop-i.i} (omega arith)) at c.loop-i.invariant

@@ -1,17 +1,11 @@
 -- `controller_c::image::put_places` meets its contract: what is left to store, stored behind what was stored, gives the whole run of stores.
-use Rattle.std.proofs.Common.{◌+◌, ◌*◌, ◌-◌, ◌≤◌}
+use Rattle.std.proofs.Common.{◌+◌, ◌*◌}
 use Rattle.std.proofs.Math.Path.{◌≡◌}
 use Rattle.std.specs.Prelude.{length, drop}
 use Rattle.std.proofs.lemmas.List.Edits.{sets}
-use Rattle.wire.specs.Limits.{max_numbers, number_width}
+use Rattle.wire.specs.Limits.{number_width}
 use Rattle.controller_c.specs.Words.{numbers_bytes}
 use Rattle.controller_c.proofs.image.put_places.Given as goal
 
 abbrev pub invariant-loop-i : goal.invariant-loop-i
-invariant-loop-i l =
-    (l.i ≤ max_numbers)
-    × (length l.image ≡ length l.initial.image)
-    × (sets l.image (l.from + number_width * l.i) (numbers_bytes (drop l.i l.at)) ≡ sets l.initial.image l.from (numbers_bytes l.at))
-
-abbrev pub decreases-loop-i : goal.decreases-loop-i
-decreases-loop-i l = max_numbers - l.i
+invariant-loop-i l = sets l.image (l.from + number_width * l.i) (numbers_bytes (drop l.i l.at)) ≡ sets l.initial.image l.from (numbers_bytes l.at)

@@ -1,12 +1,13 @@
 -- `controller_c::image::reserved_zero` meets its contract: the bytes that are left are 0, and those passed, joined, are, exactly if all are.
 use Rattle.std.proofs.Math.Bool.{◌&&◌, and_assoc, and-true}
 use Rattle.std.proofs.Math.Path.{◌≡◌, ◌∙◌}
-use Rattle.std.specs.Prelude.{refl, eqb, length, drop}
-use Rattle.std.proofs.Common.{sym, add-one, arith, rules, drop-cons, ℕ, ◌+◌, ◌≤◌, ◌<◌, List, ◌∷◌}
+use Rattle.std.specs.Prelude.{eqb, length, drop}
+use Rattle.std.proofs.Common.{sym, ap, add-one, arith, drop-cons, ℕ, ◌+◌, ◌≤◌, ◌<◌, List, ◌∷◌}
 use Rattle.std.specs.Int.Bits.{bit_or}
 use Rattle.std.proofs.Math.ListN.{get_or, drop_of_length-le}
+use Rattle.std.proofs.lemmas.Slice.{between_to_end}
 use Rattle.wire.specs.Laws.Bits.{or_zero}
-use Rattle.controller_c.specs.Image.{zeros}
+use Rattle.controller_c.specs.Image.{reserved_at, zeros}
 use Rattle.controller_c.proofs.image.reserved_zero.Goals as goal
 
 module _ (b : List ℕ) (i all : ℕ) where
@@ -18,11 +19,12 @@ module _ (b : List ℕ) (i all : ℕ) where
   done : length b ≤ i → (eqb all 0 && zeros (drop i b)) ≡ eqb all 0
   done h = rw (drop_of_length-le b {i = i} h) (and-true (eqb all 0))
 
-pub loop-i-init : goal.loop-i-init
-loop-i-init c = (search rules, refl)
-
-pub loop-i-preserved : goal.loop-i-preserved
-loop-i-preserved c = (search rules, turn c.args.image.now c.loop-i.i c.loop-i.all (search rules) ∙ c.loop-i.invariant.1)
+pub loop-byte-preserved : goal.loop-byte-preserved
+loop-byte-preserved c = turn _ c.loop-byte.byte-index c.loop-byte.all c.loop-byte-test.true ∙ c.loop-byte.invariant
 
 pub returns : goal.returns
-returns c = sym (done c.args.image.now c.loop-i.i c.loop-i.all (omega arith)) ∙ c.loop-i.invariant.1
+returns c =
+    let image = c.args.image.now in
+    sym (done _ c.loop-byte.byte-index c.loop-byte.all c.loop-byte-test.false)
+    ∙ c.loop-byte.invariant
+    ∙ ap zeros (between_to_end image reserved_at (length image) (omega arith))

@@ -1,5 +1,5 @@
 -- `controller_c::image::take_places` meets its contract: what is left to read, stored behind what was read, gives all the places.
-use Rattle.std.specs.Prelude.{List, [], refl, set, replicate}
+use Rattle.std.specs.Prelude.{List, [], set, replicate}
 use Rattle.std.proofs.Math.Path.{◌≡◌, ◌∙◌}
 use Rattle.std.proofs.Math.Nat.{add-zero}
 use Rattle.std.proofs.Common.{add-one, arith, rules, ℕ, suc, ◌+◌, ◌*◌, ◌-◌, ◌≤◌, ◌<◌}
@@ -27,15 +27,12 @@ module _ (b : List ℕ) (from : ℕ) where
   unfolding places_at
   all = rw add-zero (sets_whole (replicate max_numbers 0) (numbers_at b from max_numbers) (numbers_length b from max_numbers))
 
-pub loop-i-init : goal.loop-i-init
-loop-i-init c = (search rules, refl)
-
 pub loop-i-preserved : goal.loop-i-preserved
 loop-i-preserved c =
     let a = c.args in
-    (search rules, turn a.image.now a.from c.loop-i.i c.word.result c.loop-i.at (search rules) c.word.ensures ∙ c.loop-i.invariant.1)
+    turn a.image.now a.from c.loop-i.i c.word.result c.loop-i.at (search rules) c.word.ensures ∙ c.loop-i.invariant
 
 pub returns : goal.returns
 returns c =
     let a = c.args in
-    rw (done a.image.now a.from c.loop-i.i c.loop-i-test.false) at c.loop-i.invariant.1 ∙ all a.image.now a.from
+    rw (done a.image.now a.from c.loop-i.i c.loop-i-test.false) at c.loop-i.invariant ∙ all a.image.now a.from

@@ -1,5 +1,5 @@
 -- `controller_c::image::take_places` meets its contract: what is left to read, stored behind what was read, gives all the places.
-use Rattle.std.proofs.Common.{ℕ, ◌+◌, ◌*◌, ◌-◌, ◌≤◌}
+use Rattle.std.proofs.Common.{ℕ, ◌+◌, ◌*◌, ◌-◌}
 use Rattle.std.specs.Prelude.{List, replicate}
 use Rattle.std.proofs.Math.Path.{◌≡◌}
 use Rattle.std.proofs.lemmas.List.Edits.{sets}
@@ -12,7 +12,4 @@ abbrev pub rest : List ℕ → ℕ → ℕ → List ℕ
 rest b from i = numbers_at b (from + number_width * i) (max_numbers - i)
 
 abbrev pub invariant-loop-i : goal.invariant-loop-i
-invariant-loop-i l = (l.i ≤ max_numbers) × (sets l.at l.i (rest l.image l.from l.i) ≡ sets (replicate max_numbers 0) 0 (rest l.image l.from 0))
-
-abbrev pub decreases-loop-i : goal.decreases-loop-i
-decreases-loop-i l = max_numbers - l.i
+invariant-loop-i l = sets l.at l.i (rest l.image l.from l.i) ≡ sets (replicate max_numbers 0) 0 (rest l.image l.from 0)

@@ -1,17 +1,16 @@
--- `wire::frame::bit_fits` meets its contract: each branch gives the tests of `bit_fits` their values.
+-- `wire::frame::bit_fits` meets its contract: each arm gives the tests of `bit_fits` their values.
 use Rattle.std.proofs.Common.{rules}
 use Rattle.wire.specs.Frame.{bit_fits}
-use Rattle.wire.proofs.Tests.{tests}
 use Rattle.wire.proofs.frame.bit_fits.Goals as goal
 
-pub returns-then-kind-le-ROSTER : goal.returns-then-kind-le-ROSTER
+pub returns-in-3 : goal.returns-in-3
 unfolding bit_fits
-returns-then-kind-le-ROSTER c = search (tests, rules)
+returns-in-3 c = search rules
 
-pub returns-then-kind-eq-VALUE : goal.returns-then-kind-eq-VALUE
+pub returns-in-0-to-2 : goal.returns-in-0-to-2
 unfolding bit_fits
-returns-then-kind-eq-VALUE c = search (tests, rules)
+returns-in-0-to-2 c = search rules
 
-pub returns-else-kind-eq-VALUE : goal.returns-else-kind-eq-VALUE
+pub returns-in_default : goal.returns-in_default
 unfolding bit_fits
-returns-else-kind-eq-VALUE c = search (tests, rules)
+returns-in_default c = search rules

@@ -1,17 +1,16 @@
--- `wire::frame::kind_of` meets its contract: each branch gives the tests of `kind_of` their values.
+-- `wire::frame::kind_of` meets its contract: each arm gives the tests of `kind_of` their values.
 use Rattle.std.proofs.Common.{rules}
 use Rattle.wire.specs.Frame.{kind_of}
-use Rattle.wire.proofs.Tests.{tests}
 use Rattle.wire.proofs.frame.kind_of.Goals as goal
 
-pub returns-then-round-eq1 : goal.returns-then-round-eq1
+pub returns-in-1 : goal.returns-in-1
 unfolding kind_of
-returns-then-round-eq1 c = search (tests, rules)
+returns-in-1 c = search rules
 
-pub returns-then-round-eq2 : goal.returns-then-round-eq2
+pub returns-in-2 : goal.returns-in-2
 unfolding kind_of
-returns-then-round-eq2 c = search (tests, rules)
+returns-in-2 c = search rules
 
-pub returns-else-round-eq2 : goal.returns-else-round-eq2
+pub returns-in_default : goal.returns-in_default
 unfolding kind_of
-returns-else-round-eq2 c = search (tests, rules)
+returns-in_default c = search rules

@@ -1,17 +1,12 @@
--- `wire::frame::max_count` meets its contract: each branch gives the tests of `max_count` their values.
+-- `wire::frame::max_count` meets its contract: each arm gives the tests of `max_count` their values.
 use Rattle.std.proofs.Common.{rules}
 use Rattle.wire.specs.Frame.{max_count}
-use Rattle.wire.proofs.Tests.{tests}
 use Rattle.wire.proofs.frame.max_count.Goals as goal
 
-pub returns-then-kind-eq-ROSTER : goal.returns-then-kind-eq-ROSTER
+pub returns-in-2 : goal.returns-in-2
 unfolding max_count
-returns-then-kind-eq-ROSTER c = search (tests, rules)
+returns-in-2 c = search rules
 
-pub returns-then-kind-eq-TURN : goal.returns-then-kind-eq-TURN
+pub returns-in_default : goal.returns-in_default
 unfolding max_count
-returns-then-kind-eq-TURN c = search (tests, rules)
-
-pub returns-else-kind-eq-TURN : goal.returns-else-kind-eq-TURN
-unfolding max_count
-returns-else-kind-eq-TURN c = search (tests, rules)
+returns-in_default c = search rules

@@ -1,25 +1,24 @@
--- `wire::frame::said_by` meets its contract: each branch gives the tests of `said_by` their values.
+-- `wire::frame::said_by` meets its contract: each arm gives the tests of `said_by` their values.
 use Rattle.std.proofs.Common.{rules}
 use Rattle.wire.specs.Frame.{said_by}
-use Rattle.wire.proofs.Tests.{tests}
 use Rattle.wire.proofs.frame.said_by.Goals as goal
 
-pub returns-then-kind-eq-INIT : goal.returns-then-kind-eq-INIT
+pub returns-in-1 : goal.returns-in-1
 unfolding said_by
-returns-then-kind-eq-INIT c = search (tests, rules)
+returns-in-1 c = search rules
 
-pub returns-then-kind-eq-ROSTER : goal.returns-then-kind-eq-ROSTER
+pub returns-in-2 : goal.returns-in-2
 unfolding said_by
-returns-then-kind-eq-ROSTER c = search (tests, rules)
+returns-in-2 c = search rules
 
-pub returns-then-kind-eq-VALUE : goal.returns-then-kind-eq-VALUE
+pub returns-in-3 : goal.returns-in-3
 unfolding said_by
-returns-then-kind-eq-VALUE c = search (tests, rules)
+returns-in-3 c = search rules
 
-pub returns-then-kind-eq-PROPOSE : goal.returns-then-kind-eq-PROPOSE
+pub returns-in-4 : goal.returns-in-4
 unfolding said_by
-returns-then-kind-eq-PROPOSE c = search (tests, rules)
+returns-in-4 c = search rules
 
-pub returns-else-kind-eq-PROPOSE : goal.returns-else-kind-eq-PROPOSE
+pub returns-in_default : goal.returns-in_default
 unfolding said_by
-returns-else-kind-eq-PROPOSE c = search (tests, rules)
+returns-in_default c = search rules

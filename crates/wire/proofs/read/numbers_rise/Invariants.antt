@@ -1,12 +1,11 @@
--- `wire::read::numbers_rise` meets its contract: what is left to read rises from the last number exactly if the whole list does from 0.
-use Rattle.std.proofs.Common.{◌-◌, ◌≤◌}
+-- `wire::read::numbers_rise` meets its contract: the numbers passed rose and what is left rises from above the last of them exactly if the whole list rises.
+use Rattle.std.proofs.Math.Bool.{◌&&◌}
 use Rattle.std.proofs.Math.Path.{◌≡◌}
+use Rattle.std.specs.Int.{w32, from_be_bytes}
+use Rattle.std.specs.Prelude.{drop, map}
 use Rattle.wire.specs.Numbers.{rising}
-use Rattle.wire.proofs.Rest.{rest}
 use Rattle.wire.proofs.read.numbers_rise.Given as goal
 
-abbrev pub invariant-loop-i : goal.invariant-loop-i
-invariant-loop-i l = (l.i ≤ l.count) × (rising l.last (rest l.bytes l.count l.i) ≡ rising 0 (rest l.bytes l.count 0))
-
-abbrev pub decreases-loop-i : goal.decreases-loop-i
-decreases-loop-i l = l.count - l.i
+abbrev pub invariant-loop-number : goal.invariant-loop-number
+invariant-loop-number l =
+    (l.ok && rising l.last (map (from_be_bytes w32) (drop l.number-index l.numbers))) ≡ rising 0 (map (from_be_bytes w32) l.numbers)

@@ -1,16 +1,9 @@
--- `wire::word::put_word` meets its contract: four stores at neighbouring bytes are one run of stores.
-use Rattle.std.proofs.Math.Numerals.{towards_suc}
-use Rattle.std.proofs.Common.{arith, length-set}
+-- `wire::word::put_word` meets its contract: the number's bytes, highest first, are those of `word_bytes`, and their copy into the slice is four stores.
+use Rattle.std.proofs.Common.{arith}
+use Rattle.std.proofs.lemmas.Grind.{common_steps}
+use Rattle.std.proofs.lemmas.List.Edits.{sets-eq}
+use Rattle.wire.specs.Words.{word_bytes}
 use Rattle.wire.proofs.word.put_word.Goals as goal
 
-pub bounds-s-at-2 : goal.bounds-s-at-2
-bounds-s-at-2 c = simp length-set (omega arith)
-
-pub bounds-s-at-3 : goal.bounds-s-at-3
-bounds-s-at-3 c = simp length-set (omega arith)
-
-pub bounds-s-at-4 : goal.bounds-s-at-4
-bounds-s-at-4 c = simp length-set (omega arith)
-
 pub returns : goal.returns
-returns c = simp towards_suc
+returns c = grind (arith, common_steps, sets-eq (word_bytes c.args.x) c.args.s.now c.args.at c.requires)
