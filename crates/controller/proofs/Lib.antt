@@ -2,5 +2,6 @@
 pub mod Directory
 pub mod Heard
 pub mod NextEntry
+pub mod Noted
 pub mod Promises
 pub mod Tallied

@@ -1,7 +1,7 @@
-// The bit: what is taken from the king, proposed and adopted. None is 2 here, as in the state's `said`, which these bits become or are compared with
-// (`king_opinion`, `proposed_from`).
-ghost use Rattle.std.specs.Prelude.{cond, true, ◌≡◌, ◌+◌, ◌≤◌, eqb};
-ghost use Rattle.wire.specs.Frame.{kind_of};
+// The bit: what is taken from the king, proposed and adopted. None is 2 in what a controller says itself (`proposal`, `opinion_of`, `Turn`), as in the state's
+// `said`, which these bits become or are compared with.
+ghost use Rattle.std.specs.Prelude.{cond, true, ◌≡◌, ◌+◌, ◌≤◌, eqb, IfSome};
+ghost use Rattle.wire.specs.Frame.{kind_of, bit_chosen};
 ghost use Rattle.wire.specs.Limits.{max_numbers};
 ghost use Rattle.controller.specs.State.{view};
 ghost use Rattle.controller.specs.Thirds.{two_thirds};
@@ -15,33 +15,35 @@ use crate::received::{NotedTray, received_bit};
 use crate::state::State;
 use wire::limits::NO_BIT;
 
-// The opinion of the state's king, 2 where it has none. A king that is not heard sent nothing, and one that is silent counts as sending no opinion.
-fn king_opinion(state: &State, noted: &NotedTray) -> u8
-    requires { (Ready state.now noted.now.tray.now noted.now.notes) × (kind_of state.now.round ≡ 5) }
-    ensures { result ≡ king_opinion (view state.now) (received_by state.now noted.now.tray.now) }
+// The opinion of the state's king, if it has one. A king that is not heard sent nothing, and one that is silent counts as sending no opinion.
+fn king_opinion(state: &State, noted: &NotedTray) -> Option<u8>
+    requires ready { Ready state.now noted.now.tray.now noted.now.notes }
+    requires kind { kind_of state.now.round ≡ 5 }
+    ensures opinion { bit_chosen result ≡ king_opinion (view state.now) (received_by state.now noted.now.tray.now) }
+    ensures bit { IfSome result (λ b. b ≤ 1) }
 {
     let place = place_in(&state.heard, state.king);
     if !has_at(&state.heard, place, state.king) {
-        return NO_BIT;
+        return None;
     }
     // Without an entry it is oneself, or silent.
     let absent = opinion_of(state, state.said);
     match received_bit(state.round, absent, noted.tray, noted.notes[place]) {
-        Some(bit) if bit <= 1 => bit,
-        _ => NO_BIT,
+        Some(bit) if bit <= 1 => Some(bit),
+        _ => None,
     }
 }
 
 // (a): the own bit, or the king's opinion.
 pub(crate) fn bit_taken(state: &State, noted: &NotedTray) -> u8
-    requires { (Ready state.now noted.now.tray.now noted.now.notes) × (kind_of (state.now.round + 1) ≡ 3) }
+    requires ready { Ready state.now noted.now.tray.now noted.now.notes }
+    requires kind { kind_of (state.now.round + 1) ≡ 3 }
     ensures { result ≡ bit_taken (view state.now) (received_by state.now noted.now.tray.now) }
 {
     if state.round < 3 || state.strong != 0 {
         return state.bit;
     }
-    let opinion = king_opinion(state, noted);
-    if opinion <= 1 { opinion } else { state.bit }
+    king_opinion(state, noted).unwrap_or(state.bit)
 }
 
 // The bit whose values reach two thirds of `h`, else 2.
@@ -79,7 +81,8 @@ fn adopted(bit: u8, counts: Counts, h: usize) -> u8
 
 // 1 where a count of proposals reaches two thirds of `h`.
 fn strong_of(count: usize, h: usize) -> u8
-    requires { (count ≤ max_numbers) × (h ≤ max_numbers) }
+    requires few { count ≤ max_numbers }
+    requires most { h ≤ max_numbers }
     ensures { result ≡ cond (two_thirds count h) 1 0 }
 {
     (2 * h <= 3 * count) as u8
@@ -94,7 +97,8 @@ fn opinion_of(state: &State, bit: u8) -> u8
 
 // What the counts of proposals among those heard make of the bit.
 pub(crate) fn spoken(state: &State, counts: Counts) -> Turn
-    requires { (state.now.heard.len ≤ max_numbers) × (state.now.bit ≤ 1) }
+    requires few { state.now.heard.len ≤ max_numbers }
+    requires bit { state.now.bit ≤ 1 }
     ensures { Turns state.now counts result }
 {
     let h = state.heard.len;

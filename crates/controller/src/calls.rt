@@ -63,7 +63,8 @@ fn refused(refusal: Refusal, state: State) -> Answer
 
 // Writes the frame that is sent with a state, and returns its length; a decided one sends nothing.
 fn send(state: &State, out: &mut [u8]) -> usize
-    requires { (max_frame ≤ length out.old) × (state.now.echoes.len ≤ max_numbers) }
+    requires room { max_frame ≤ length out.old }
+    requires few { state.now.echoes.len ≤ max_numbers }
     ensures { SendsState state.now out.old result out.new }
 {
     if state.decision != NO_BIT {
@@ -127,7 +128,7 @@ fn work_checked(state: &mut State, tray: PackedTray, out: &mut [u8]) -> Result<u
             Refusal::BadSender
         });
     };
-    if !step(state, &noted) {
+    if step(state, &noted).is_none() {
         state.heard = heard;
         return Err(Refusal::TooManyListed);
     }

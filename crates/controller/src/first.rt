@@ -13,7 +13,8 @@ use wire::limits::MAX_NUMBERS;
 // The last round whose tray can be worked: the one before the last that is sent.
 const LAST_WORKED: u8 = 194;
 
-// How many rounds are 0. `zero_places` counts numbers: each in its own width, so that the loop is wide, which one function over both would not be.
+// How many rounds are 0. `zero_places` counts numbers, each in its own width, so that the loop is wide: one function over both would need a
+// bound and a law that says what 0 is.
 fn zeros(rounds: &[u8]) -> u8
     requires { length rounds.now ≤ max_numbers }
     ensures { result ≡ count_if is_zero rounds.now }
@@ -39,7 +40,8 @@ fn all_timely(rounds: &[u8]) -> bool
 // Whether the record is sound beside `len` numbers, of which the own one stands at place `own`. One 0 in the used places is the own number's, and as many
 // more as there are unused places are theirs: to count costs less than to test place by place.
 pub(crate) fn rounds_sound(since: &[u8; MAX_NUMBERS], len: usize, own: usize) -> bool
-    requires { (len ≤ max_numbers) × (own < len) }
+    requires few { len ≤ max_numbers }
+    requires inside { own < len }
     ensures { RoundsSound len own since.now result }
 {
     let used = zeros(&since[..len]);
@@ -49,7 +51,8 @@ pub(crate) fn rounds_sound(since: &[u8; MAX_NUMBERS], len: usize, own: usize) ->
 
 // Moves the record from beside the numbers `heard` to beside the numbers `all`, and gives each new number the tray's round.
 fn record_rounds(heard: &Numbers, all: &Numbers, round: u8, since: &mut [u8; MAX_NUMBERS])
-    requires { (sound_list heard.now ≡ true) × (all.now.len ≤ max_numbers) }
+    requires sound { sound_list heard.now ≡ true }
+    requires few { all.now.len ≤ max_numbers }
     ensures { since.new ≡ moved_to (listed heard.now) (listed all.now) round since.old }
 {
     let old = *since;

@@ -1,5 +1,5 @@
-// Rising lists of controller numbers, in their stored form. That a list is sound is asked here and is no invariant of its type: a state may have any lists
-// (`is_sound`), and those heard grow while they are searched.
+// Rising lists of controller numbers, in their stored form. That a list is sound, or has at most 64 numbers, is asked and is no invariant of its type: a
+// state may have any lists (`is_sound`), and those heard grow while they are searched.
 ghost use Rattle.std.specs.Prelude.{true, [], ◌≡◌, ◌-◌, ◌≤◌, ◌<◌, get_or};
 ghost use Rattle.wire.specs.Limits.{max_numbers};
 ghost use Rattle.wire.specs.Numbers.{stored, listed};
@@ -52,9 +52,10 @@ pub(crate) fn stands_before(list: &Numbers, place: usize, x: u32) -> bool
     0 < place && list.at[place - 1] == x
 }
 
-// The place where `x` stands or belongs, searched from a place on that is not behind it.
+// The place where `x` stands or belongs, searched from a place on that is not behind it, one by one, since it is mostly the first that is looked at.
 pub(crate) fn place_from(list: &Numbers, from: usize, x: u32) -> usize
-    requires { (sound_list list.now ≡ true) × (from ≤ below x (listed list.now)) }
+    requires sound { sound_list list.now ≡ true }
+    requires place { from ≤ below x (listed list.now) }
     ensures { result ≡ below x (listed list.now) }
 {
     for i in from..list.len {
@@ -67,26 +68,28 @@ pub(crate) fn place_from(list: &Numbers, from: usize, x: u32) -> usize
 
 // Whether `x` stands at its place `i`.
 pub(crate) fn has_at(list: &Numbers, i: usize, x: u32) -> bool
-    requires { (sound_list list.now ≡ true) × (i ≡ below x (listed list.now)) }
+    requires sound { sound_list list.now ≡ true }
+    requires place { i ≡ below x (listed list.now) }
     ensures { result ≡ mem x (listed list.now) }
 {
     i < list.len && list.at[i] == x
 }
 
-// Puts `x` in at place `to`, what stands from there on, up to `len`, one place further.
+// Puts `x` in at place `to`, what stands from there on, up to `len`, one place further. Places and notes are opened so, hence no `Numbers`.
 pub(crate) fn open_at(at: &mut [u32; MAX_NUMBERS], len: usize, to: usize, x: u32)
-    requires { (to ≤ len) × (len < max_numbers) }
+    requires inside { to ≤ len }
+    requires room { len < max_numbers }
     ensures { at.new ≡ opened to x len at.old }
 {
-    for i in (to..len).rev() {
-        at[i + 1] = at[i];
-    }
+    at.copy_within(to..len, to + 1);
     at[to] = x;
 }
 
 // Puts `x` into a list that is not full, at place `to`.
 pub(crate) fn insert_at(list: &mut Numbers, to: usize, x: u32)
-    requires { (sound_list list.old ≡ true) × (to ≤ list.old.len) × (list.old.len < max_numbers) }
+    requires sound { sound_list list.old ≡ true }
+    requires inside { to ≤ list.old.len }
+    requires room { list.old.len < max_numbers }
     ensures { list.new ≡ stored (inserted_at to x (listed list.old)) }
 {
     open_at(&mut list.at, list.len, to, x);

@@ -1,16 +1,16 @@
 // The received lists, opened for the tally: where each lies, how many numbers it has, and how many controllers sent it. The first is the own one, in
 // the state; the others are read where they lie in the tray.
-ghost use Rattle.std.specs.Prelude.{true, ◌≡◌, ◌≤◌, ◌<◌, length, get_or, take};
+ghost use Rattle.std.specs.Prelude.{true, ◌≡◌, ◌≤◌, ◌<◌, length, take};
 ghost use Rattle.wire.specs.Frame.{content};
 ghost use Rattle.wire.specs.Limits.{max_numbers};
 ghost use Rattle.wire.specs.Words.{words_at};
 ghost use Rattle.controller.specs.Received.{read_in, list_in};
 ghost use Rattle.controller.specs.Work.Received.{noted, Ready};
-ghost use Rattle.controller.specs.Work.OpenList.{end_mark, NumbersIn, start_limit};
-ghost use Rattle.controller.specs.Work.Opened.{nth_open, received_list, SpanOf, Recalls, Finds, Placeable, Adds, OpensOwn, OpensAll};
+ghost use Rattle.controller.specs.Work.OpenList.{NumbersIn, start_limit};
+ghost use Rattle.controller.specs.Work.Opened.{SpanOf, OpensOwn, OpensAll};
 ghost use Rattle.controller.specs.Work.Tally.{OneList};
 
-use crate::open_list::{END, MAX_LISTS, NO_LIST, OpenList, OpenLists};
+use crate::open_list::{MAX_LISTS, NO_LIST, OpenList, OpenLists};
 use crate::received::{NotedTray, sent_count};
 use crate::state::State;
 use wire::found::{Found, NO_FRAME, found_by, same_frames};
@@ -31,7 +31,8 @@ fn list_count(bytes: &[u8], round: u32) -> usize
 
 // The list of the frame that a note is of, which one sent; an empty one where the frame is void or there is not one.
 fn list_of(tray: &[u8], note: u32, round: u32) -> OpenList
-    ensures { SpanOf tray.now (list_in (read_in round (noted tray.now note))) result.start result.count × (result.sent ≡ 1) }
+    ensures span { SpanOf tray.now (list_in (read_in round (noted tray.now note))) result.start result.count }
+    ensures sent { result.sent ≡ 1 }
 {
     if let Found::At(offset, len) = found_by(note) {
         OpenList {
@@ -44,9 +45,11 @@ fn list_of(tray: &[u8], note: u32, round: u32) -> OpenList
     }
 }
 
-// Whether the list that lies at a place of the tray has the numbers of the own list.
+// Whether the list that lies at a place of the tray has the numbers of the own list. It is no `==`, since its numbers lie there in their bytes.
 fn same_list(tray: &[u8], start: usize, own: &[u32]) -> bool
-    requires { (start < start_limit) × (length own.now ≤ max_numbers) × NumbersIn tray.now start (length own.now) }
+    requires low { start < start_limit }
+    requires few { length own.now ≤ max_numbers }
+    requires inside { NumbersIn tray.now start (length own.now) }
     ensures { result ≡ true → words_at tray.now start (length own.now) ≡ own.now }
 {
     for (i, &number) in own.iter().enumerate() {
@@ -57,69 +60,54 @@ fn same_list(tray: &[u8], start: usize, own: &[u32]) -> bool
     true
 }
 
-// The number at place `i` of open list `j`; `END` behind its last one.
-pub(crate) fn number_in(opened: &OpenLists, j: usize, i: usize) -> usize
-    requires { j < opened.now.len }
-    ensures { (result ≡ get_or (nth_open opened.now j) i end_mark) × (result ≤ end_mark) }
-{
-    let list = opened.lists[j];
-    if list.count <= i {
-        END
-    } else if j == 0 {
-        opened.own[i] as usize
-    } else {
-        read_number(opened.tray, list.start + NUMBER_WIDTH * i) as usize
-    }
-}
+impl OpenLists<'_> {
+    ghost use Rattle.controller.specs.Work.Opened.{received_list, Recalls, Finds, Placeable, Adds};
 
-// The place of an open list that is sure to be the one received with a note; where there is none, as an error, that list. `slot` is the place of the list
-// that was received with the note `last`.
-fn find_list(
-    opened: &OpenLists,
-    round: u32,
-    note: u32,
-    last: u32,
-    slot: usize,
-) -> Result<usize, OpenList>
-    requires { Recalls round opened.now last slot }
-    ensures { Finds (received_list round opened.now note) opened.now result }
-{
-    if note == NO_FRAME {
-        return Ok(0);
-    }
-    if same_frames(opened.tray, last, note) {
-        return Ok(slot);
-    }
-    let list = list_of(opened.tray, note, round);
-    let count = opened.lists[0].count;
-    if list.count == count && same_list(opened.tray, list.start, &opened.own[..count]) {
-        return Ok(0);
-    }
-    Err(list)
-}
-
-// Counts the list received with a note, and returns its place: that of an open one that is sure to be equal, else the one behind them, where it is opened.
-fn place_list(opened: &mut OpenLists, round: u32, note: u32, last: u32, slot: usize) -> usize
-    requires { Placeable round opened.old last slot }
-    ensures { Adds (received_list round opened.old note) opened.old result opened.new }
-{
-    match find_list(opened, round, note, last, slot) {
-        Ok(place) => {
-            opened.lists[place].sent += 1;
-            place
+    // The place of an open list that is sure to be the one received with a note; where there is none, as an error, that list. `slot` is the place of the list
+    // that was received with the note `last`.
+    fn find_list(&self, round: u32, note: u32, last: u32, slot: usize) -> Result<usize, OpenList>
+        requires { Recalls round self.now last slot }
+        ensures { Finds (received_list round self.now note) self.now result }
+    {
+        if note == NO_FRAME {
+            return Ok(0);
         }
-        Err(list) => {
-            let place = opened.len;
-            opened.lists[place] = list;
-            opened.len += 1;
-            place
+        if same_frames(self.tray, last, note) {
+            return Ok(slot);
+        }
+        let list = list_of(self.tray, note, round);
+        let count = self.lists[0].count;
+        if list.count == count && same_list(self.tray, list.start, &self.own[..count]) {
+            return Ok(0);
+        }
+        Err(list)
+    }
+
+    // Counts the list received with a note, and returns its place: that of an open one that is sure to be equal, else the one behind them, where it is opened.
+    fn place_list(&mut self, round: u32, note: u32, last: u32, slot: usize) -> usize
+        requires { Placeable round self.old last slot }
+        ensures { Adds (received_list round self.old note) self.old result self.new }
+    {
+        match self.find_list(round, note, last, slot) {
+            Ok(place) => {
+                self.lists[place].sent += 1;
+                place
+            }
+            Err(list) => {
+                let place = self.len;
+                self.lists[place] = list;
+                self.len += 1;
+                place
+            }
         }
     }
 }
 
 // The own list, of so many numbers, with nobody counted for it.
 fn own_alone<'a>(own: &'a [u32], tray: &'a [u8], count: usize) -> OpenLists<'a>
-    requires { (count ≤ max_numbers) × (count ≤ length own.now) × OneList (take count own.now) }
+    requires few { count ≤ max_numbers }
+    requires inside { count ≤ length own.now }
+    requires list { OneList (take count own.now) }
     ensures { OpensOwn own.now tray.now count result }
 {
     let mut lists = [NO_LIST; MAX_LISTS];
@@ -142,7 +130,7 @@ pub(crate) fn open_lists<'a>(state: &'a State, noted: &NotedTray<'a>) -> OpenLis
     let mut last = NO_FRAME;
     let mut slot = 0;
     for &note in &noted.notes[..state.heard.len] {
-        let place = place_list(&mut opened, state.round, note, last, slot);
+        let place = opened.place_list(state.round, note, last, slot);
         if note != NO_FRAME {
             last = note;
             slot = place;

@@ -9,7 +9,7 @@ ghost use Rattle.controller.specs.Work.Own.{SharesList, WritesOwn, AgreesOwn};
 
 use crate::received::{NotedTray, sent_count};
 use crate::state::State;
-use wire::found::{NO_FRAME, same_bytes};
+use wire::found::{Found, found_by, same_bytes};
 use wire::frame::kind_of;
 use wire::limits::{FRAME_HEADER, MAX_FRAME, NO_BIT, TURN};
 use wire::write::lay_frame;
@@ -19,21 +19,16 @@ use wire::write::lay_frame;
 fn sent_list(frame: &[u8], tray: &[u8], note: u32) -> bool
     ensures { (t : ℕ) → result ≡ true → list_under t (list_in (content frame.now t)) tray.now note ≡ list_in (content frame.now t) }
 {
-    if note == NO_FRAME {
-        return true;
+    match found_by(note) {
+        Found::Nothing => true,
+        Found::At(_, len) if len != frame.len() => false,
+        Found::At(_, len) if len == FRAME_HEADER => true,
+        Found::At(offset, len) => match tray.get(offset..offset + len) {
+            Some(list) => same_bytes(list, frame),
+            None => false,
+        },
+        Found::Several => false,
     }
-    let len = note as usize % 65536;
-    if len != frame.len() {
-        return false;
-    }
-    if len == FRAME_HEADER {
-        return true;
-    }
-    let offset = note as usize / 65536;
-    if tray.len() < offset + len {
-        return false;
-    }
-    same_bytes(&tray[offset..offset + len], frame)
 }
 
 // How many of some notes are sure to be of the list that a frame has.
@@ -51,7 +46,8 @@ fn count_list(frame: &[u8], tray: &[u8], notes: &[u32]) -> usize
 
 // Writes the own frame, without an opinion, as one that is silent counts as having sent it; returns its length.
 fn write_own(state: &State, out: &mut [u8]) -> usize
-    requires { (max_frame ≤ length out.old) × (sent_count state.now ≤ max_numbers) }
+    requires room { max_frame ≤ length out.old }
+    requires few { sent_count state.now ≤ max_numbers }
     ensures { WritesOwn state.now out.new result }
 {
     let bit = if kind_of(state.round) == TURN {

@@ -1,5 +1,5 @@
 // What is received in a round: who is heard, and what the frame under each heard number says.
-ghost use Rattle.std.specs.Prelude.{true, ◌≡◌, ℕ, replicate};
+ghost use Rattle.std.specs.Prelude.{true, ◌≡◌, ℕ, replicate, is_some};
 ghost use Rattle.wire.specs.Frame.{content, kind_of, bit_in};
 ghost use Rattle.wire.specs.Heads.{Short, head_of};
 ghost use Rattle.wire.specs.Limits.{max_numbers};
@@ -45,7 +45,8 @@ pub(crate) fn senders_fit(tray: &[u8], own: u32) -> bool
 // Makes a note on the frames of each sender, from the directory's end to its front, so that of equal copies the first is kept; up to one that is new, or the
 // own number. Returns how many entries are left. Mostly none is: all are heard already, and the directory goes by rising senders.
 fn note_known(tray: PackedTray, own: u32, heard: &Numbers, notes: &mut [u32; MAX_NUMBERS]) -> usize
-    requires { (sound_list heard.now ≡ true) × (notes.old ≡ replicate max_numbers no_frame) }
+    requires sound { sound_list heard.now ≡ true }
+    requires empty { notes.old ≡ replicate max_numbers no_frame }
     ensures { HearsFrom own tray.entry.bytes.now (listed heard.now) heard.now notes.new result }
 {
     let entries = directory(tray.bytes);
@@ -67,23 +68,24 @@ fn note_known(tray: PackedTray, own: u32, heard: &Numbers, notes: &mut [u32; MAX
     0
 }
 
-// Goes on with the `left` entries in front, and puts new senders into heard. Whether they fit: none is 0 or the own number, and no more than 64 are heard.
+// Goes on with the `left` entries in front, and puts new senders into heard. `None` where they do not fit: one is 0 or the own number, or more than 64 would
+// be heard.
 fn hear_new(
     tray: PackedTray,
     own: u32,
     heard: &mut Numbers,
     left: usize,
     notes: &mut [u32; MAX_NUMBERS],
-) -> bool
+) -> Option<()>
     requires { HearsFrom own tray.bytes.now (listed heard.old) heard.old notes.old left }
-    ensures { Hears own tray.entry.bytes.now (listed heard.old) result heard.new notes.new }
+    ensures { Hears own tray.entry.bytes.now (listed heard.old) (is_some result) heard.new notes.new }
 {
     let entries = directory(tray.bytes);
     let mut next = 0;
     for i in (0..left).rev() {
         let sender = entry_sender(entries, i);
         if sender == own {
-            return false;
+            return None;
         }
         let place = entry_place(entries, i);
         let at = match find_near(heard, sender, next) {
@@ -93,7 +95,7 @@ fn hear_new(
             }
             Err(at) => {
                 if sender == 0 || MAX_NUMBERS <= heard.len {
-                    return false;
+                    return None;
                 }
                 open_at(notes, heard.len, at, place);
                 insert_at(heard, at, sender);
@@ -102,7 +104,7 @@ fn hear_new(
         };
         next = (at + MAX_NUMBERS - 1) % MAX_NUMBERS;
     }
-    true
+    Some(())
 }
 
 // Puts the directory's senders into heard, and makes a note on the frames of each. `None` where one of them does not fit, or more than 64 would be heard;
@@ -113,14 +115,13 @@ pub(crate) fn hear<'a>(tray: PackedTray<'a>, own: u32, heard: &mut Numbers) -> O
 {
     let mut notes = [NO_FRAME; MAX_NUMBERS];
     let left = note_known(tray, own, heard, &mut notes);
-    if left == 0 || hear_new(tray, own, heard, left, &mut notes) {
-        Some(NotedTray {
-            tray: tray.bytes,
-            notes,
-        })
-    } else {
-        None
+    if 0 < left {
+        hear_new(tray, own, heard, left, &mut notes)?;
     }
+    Some(NotedTray {
+        tray: tray.bytes,
+        notes,
+    })
 }
 
 // The bit that bytes say in a round; none where they are void.
@@ -168,18 +169,17 @@ pub(crate) fn sent_count(state: &State) -> usize
 fn short_head(own: u64, tray: &[u8], note: u32) -> u64
     ensures { (t d : ℕ) → Short t → own ≡ head_of t d → Votes t d tray.now note result }
 {
-    if note == NO_FRAME {
-        return own;
+    match found_by(note) {
+        Found::Nothing => own,
+        Found::At(offset, len) if len == FRAME_HEADER => read_head(tray, offset),
+        _ => 0,
     }
-    if note as usize % 65536 != FRAME_HEADER {
-        return 0;
-    }
-    read_head(tray, note as usize / 65536)
 }
 
 // Counts the values or the proposals of the round, bit by bit. Who has no entry, oneself or one that is silent, says what oneself says.
 pub(crate) fn count_bits(state: &State, noted: &NotedTray) -> Counts
-    requires { Ready state.now noted.now.tray.now noted.now.notes × Short state.now.round }
+    requires ready { Ready state.now noted.now.tray.now noted.now.notes }
+    requires short { Short state.now.round }
     ensures { CountsBits (kind_of state.now.round) (received_by state.now noted.now.tray.now) result }
 {
     let own = head_of(state.round, state.said);

@@ -14,7 +14,8 @@ use wire::limits::NO_BIT;
 
 // The senders of init, own included.
 pub(crate) fn roster(state: &State, noted: &NotedTray) -> Numbers
-    requires { (Ready state.now noted.now.tray.now noted.now.notes) × (kind_of state.now.round ≡ 1) }
+    requires ready { Ready state.now noted.now.tray.now noted.now.notes }
+    requires kind { kind_of state.now.round ≡ 1 }
     ensures { result ≡ stored (roster (received_by state.now noted.now.tray.now)) }
 {
     let mut list = no_numbers();

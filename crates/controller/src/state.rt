@@ -33,7 +33,7 @@ pub struct State {
 }
 
 // The refusal, 0 for none; the state after the call; the length of the frame written, 0 when refused and when the call decides. It is no `Result`: document
-// 01, "Refusals", has a state and a length returned with each refusal, as `Promise` says.
+// 01, "Refusals", has a state and a length returned with each refusal, and a number that is 0 for none, as `Promise` says.
 #[derive(Clone, Copy)]
 pub struct Answer {
     pub refusal: u8,

@@ -1,6 +1,6 @@
 // One step: what a tray makes of a state. All senders of the tray are heard already. That a state is ready for its tray (`Ready`) is asked by each function
-// and is no type's invariant: such a type would borrow the state that a step writes.
-ghost use Rattle.std.specs.Prelude.{◌≡◌, ◌+◌, ◌≤◌, ◌<◌};
+// and is no type's invariant: such a type would borrow the state that a step writes, and be made anew, with its proof, wherever one only reads.
+ghost use Rattle.std.specs.Prelude.{◌≡◌, ◌+◌, ◌≤◌, ◌<◌, is_some};
 ghost use Rattle.wire.specs.Limits.{max_numbers, last_round};
 ghost use Rattle.controller.specs.Work.Received.{Ready};
 ghost use Rattle.controller.specs.Work.Step.{named_state, Due, Makes, MakesAll};
@@ -53,33 +53,33 @@ fn make_turn(state: &mut State, noted: &NotedTray)
     state.round += 1;
 }
 
-// Whether candidates and echoes fit; where they do not, the state stays as it is.
-fn make_value(state: &mut State, noted: &NotedTray) -> bool
+// `None` where candidates or echoes do not fit; the state then stays as it is.
+fn make_value(state: &mut State, noted: &NotedTray) -> Option<()>
     requires { Due 3 state.old noted.now.tray.now noted.now.notes }
-    ensures { Makes state.old noted.now.tray.now result state.new }
+    ensures { Makes state.old noted.now.tray.now (is_some result) state.new }
 {
     let bit = bit_taken(state, noted);
     let phase = (state.round / 3) as usize;
-    if !grow(state, noted) {
-        return false;
-    }
+    grow(state, noted)?;
     state.bit = bit;
     state.said = bit;
     state.round += 1;
     name_king(state, phase);
-    true
+    Some(())
 }
 
-// The step, by the kind of the frame that is made. Whether the lists fit; where they do not, the state stays as it is.
-pub(crate) fn step(state: &mut State, noted: &NotedTray) -> bool
-    requires { (Ready state.old noted.now.tray.now noted.now.notes) × (state.old.round < last_round) }
-    ensures { Makes state.old noted.now.tray.now result state.new }
+// The step, by the kind of the frame that is made: the rules fix the four, and no caller brings one, so that it is a `match`. `None` where the lists do not fit;
+// the state then stays as it is.
+pub(crate) fn step(state: &mut State, noted: &NotedTray) -> Option<()>
+    requires ready { Ready state.old noted.now.tray.now noted.now.notes }
+    requires early { state.old.round < last_round }
+    ensures { Makes state.old noted.now.tray.now (is_some result) state.new }
 {
     match kind_of(state.round + 1) {
         ROSTER => make_roster(state, noted),
-        VALUE => return make_value(state, noted),
+        VALUE => make_value(state, noted)?,
         PROPOSE => make_propose(state, noted),
         _ => make_turn(state, noted),
     }
-    true
+    Some(())
 }

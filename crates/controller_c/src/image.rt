@@ -4,8 +4,8 @@ ghost use Rattle.std.specs.Prelude.{true, ◌≡◌, ◌+◌, ◌*◌, ◌≤◌
 ghost use Rattle.std.proofs.lemmas.List.Edits.{sets};
 ghost use Rattle.wire.specs.Limits.{max_numbers, number_width};
 ghost use Rattle.controller.specs.State.{sound};
-ghost use Rattle.controller_c.specs.Image.{image_bytes, heard_at, since_at, reserved_at, list_width, Sized, SizedRotation, head_bytes, list_bytes, zeros_from};
-ghost use Rattle.controller_c.specs.Image.{laid_out, with_rotation, places_at, list_at, rounds_at, taken_apart, zeros, shaped, sound_image};
+ghost use Rattle.controller_c.specs.Image.{since_at, reserved_at, list_width, Sized, SizedRotation, head_bytes, list_bytes, zeros_from};
+ghost use Rattle.controller_c.specs.Image.{laid_out, with_rotation, places_at, list_at, rounds_at, taken_apart, zeros, sound_image};
 ghost use Rattle.controller_c.specs.Image.{renewed_heard, renewed_rotation, LaysOver};
 ghost use Rattle.controller_c.specs.Words.{numbers_bytes};
 
@@ -20,8 +20,7 @@ use wire::frame::{Numbers, kind_of};
 use wire::limits::{MAX_NUMBERS, NUMBER_WIDTH, VALUE};
 
 // Whether the reserved bytes are 0. They are joined by `|`, so that the loop has no way out to wait for.
-fn reserved_zero(image: &[u8]) -> bool
-    requires { length image.now ≡ image_bytes }
+pub(crate) fn reserved_zero(image: &[u8; IMAGE_BYTES]) -> bool
     ensures { result ≡ zeros (drop reserved_at image.now) }
 {
     let mut all = 0;
@@ -56,8 +55,7 @@ fn take_list(image: &[u8], from: usize) -> Numbers
 }
 
 // The record, a byte for each place.
-fn take_rounds(image: &[u8]) -> [u8; MAX_NUMBERS]
-    requires { length image.now ≡ image_bytes }
+fn take_rounds(image: &[u8; IMAGE_BYTES]) -> [u8; MAX_NUMBERS]
     ensures { result ≡ rounds_at image.now }
 {
     let mut rounds = [0; MAX_NUMBERS];
@@ -66,8 +64,7 @@ fn take_rounds(image: &[u8]) -> [u8; MAX_NUMBERS]
 }
 
 // The state in an image, sound or not.
-pub(crate) fn take_apart(image: &[u8]) -> State
-    requires { length image.now ≡ image_bytes }
+pub(crate) fn take_apart(image: &[u8; IMAGE_BYTES]) -> State
     ensures { result ≡ taken_apart image.now }
 {
     State {
@@ -85,23 +82,18 @@ pub(crate) fn take_apart(image: &[u8]) -> State
     }
 }
 
-// What is left to test is the state.
-pub(crate) fn is_shaped(image: &[u8]) -> bool
-    ensures { result ≡ shaped image.now }
-{
-    image.len() == IMAGE_BYTES && reserved_zero(image)
-}
-
 pub(crate) fn is_sound_image(image: &[u8]) -> bool
     ensures { result ≡ sound_image image.now }
 {
-    is_shaped(image) && is_sound(&take_apart(image))
+    let Some(image) = image.as_array::<IMAGE_BYTES>() else {
+        return false;
+    };
+    reserved_zero(image) && is_sound(&take_apart(image))
 }
 
 // ---- from a state to its image
 
-fn put_head(image: &mut [u8], state: &State)
-    requires { heard_at ≤ length image.old }
+fn put_head(image: &mut [u8; IMAGE_BYTES], state: &State)
     ensures { image.new ≡ sets image.old 0 (head_bytes state.now) }
 {
     put_word(image, OWN_AT, state.own);
@@ -114,7 +106,7 @@ fn put_head(image: &mut [u8], state: &State)
 }
 
 fn put_places(image: &mut [u8], from: usize, at: &[u32; MAX_NUMBERS])
-    requires { (from + number_width * max_numbers ≤ length image.old) × (length at.now ≡ max_numbers) }
+    requires { from + number_width * max_numbers ≤ length image.old }
     ensures { image.new ≡ sets image.old from (numbers_bytes at.now) }
 {
     for i in 0..MAX_NUMBERS {
@@ -123,7 +115,8 @@ fn put_places(image: &mut [u8], from: usize, at: &[u32; MAX_NUMBERS])
 }
 
 fn put_list(image: &mut [u8], from: usize, list: &Numbers)
-    requires { Sized list.now × (from + list_width ≤ length image.old) }
+    requires sized { Sized list.now }
+    requires room { from + list_width ≤ length image.old }
     ensures { image.new ≡ sets image.old from (list_bytes list.now) }
 {
     put_word(image, from, list.len as u32);
@@ -131,31 +124,31 @@ fn put_list(image: &mut [u8], from: usize, list: &Numbers)
 }
 
 // Candidates and echoes.
-fn put_rotation(image: &mut [u8], state: &State)
-    requires { SizedRotation state.now × (since_at ≤ length image.old) }
+fn put_rotation(image: &mut [u8; IMAGE_BYTES], state: &State)
+    requires { SizedRotation state.now }
     ensures { image.new ≡ with_rotation state.now image.old }
 {
     put_list(image, CANDIDATES_AT, &state.candidates);
     put_list(image, ECHOES_AT, &state.echoes);
 }
 
-fn put_rounds(image: &mut [u8], since: &[u8; MAX_NUMBERS])
-    requires { (length since.now ≡ max_numbers) × (reserved_at ≤ length image.old) }
+// From a copy, which the compiler knows to lie apart from the image, so that it moves the bytes wide.
+fn put_rounds(image: &mut [u8; IMAGE_BYTES], since: &[u8; MAX_NUMBERS])
     ensures { image.new ≡ sets image.old since_at since.now }
 {
-    image[SINCE_AT..RESERVED_AT].copy_from_slice(since);
+    let rounds = *since;
+    image[SINCE_AT..RESERVED_AT].copy_from_slice(&rounds);
 }
 
-fn clear_reserved(image: &mut [u8])
-    requires { length image.old ≡ image_bytes }
+fn clear_reserved(image: &mut [u8; IMAGE_BYTES])
     ensures { image.new ≡ sets image.old reserved_at (zeros_from reserved_at) }
 {
     image[RESERVED_AT..].fill(0);
 }
 
 // Every byte of the image, from a sound state.
-pub(crate) fn lay_out(state: &State, image: &mut [u8])
-    requires { (sound state.now ≡ true) × (length image.old ≡ image_bytes) }
+pub(crate) fn lay_out(state: &State, image: &mut [u8; IMAGE_BYTES])
+    requires { sound state.now ≡ true }
     ensures { image.new ≡ laid_out state.now }
 {
     put_head(image, state);
@@ -168,8 +161,8 @@ pub(crate) fn lay_out(state: &State, image: &mut [u8])
 // ---- from a state to the image of the one before it
 
 // Those heard, with the record beside them. Nobody is ever dropped, so where they are still `known` in number they are the same, and so is the record.
-fn renew_heard(image: &mut [u8], known: usize, state: &State)
-    requires { Sized state.now.heard × (length state.now.since ≡ max_numbers) × (reserved_at ≤ length image.old) }
+fn renew_heard(image: &mut [u8; IMAGE_BYTES], known: usize, state: &State)
+    requires { Sized state.now.heard }
     ensures { image.new ≡ renewed_heard known state.now image.old }
 {
     if state.heard.len != known {
@@ -179,8 +172,8 @@ fn renew_heard(image: &mut [u8], known: usize, state: &State)
 }
 
 // Candidates and echoes, which a step changes only where it makes a roster or a value.
-fn renew_rotation(image: &mut [u8], state: &State)
-    requires { SizedRotation state.now × (since_at ≤ length image.old) }
+fn renew_rotation(image: &mut [u8; IMAGE_BYTES], state: &State)
+    requires { SizedRotation state.now }
     ensures { image.new ≡ renewed_rotation state.now image.old }
 {
     if kind_of(state.round) <= VALUE {
@@ -190,7 +183,7 @@ fn renew_rotation(image: &mut [u8], state: &State)
 
 // Makes the image of the state before a step, in which `known` are heard, that of the state made. A list that the step left as it was is not stored again,
 // nor are the reserved bytes, which are 0 already: most steps change the head alone.
-pub(crate) fn lay_over(known: usize, state: &State, image: &mut [u8])
+pub(crate) fn lay_over(known: usize, state: &State, image: &mut [u8; IMAGE_BYTES])
     requires { LaysOver known state.now image.old }
     ensures { image.new ≡ laid_out state.now }
 {

@@ -9,7 +9,7 @@ ghost use Rattle.controller_c.specs.Calls.{StartImagePromise, TrayImagePromise, 
 ghost use Rattle.controller_c.specs.Image.{echoes_at, sound_image, taken_apart};
 ghost use Rattle.controller_c.specs.Words.{number_at};
 
-use crate::image::{is_shaped, is_sound_image, lay_out, lay_over, take_apart};
+use crate::image::{is_sound_image, lay_out, lay_over, reserved_zero, take_apart};
 use crate::layout::{
     CANDIDATES_AT, COUNT_BYTES, DECISION_AT, ECHOES_AT, HEARD_AT, IMAGE_BYTES, KING_AT, ROUND_AT,
     SINCE_AT,
@@ -26,7 +26,8 @@ mod word;
 
 // Refuses what is no image.
 fn no_image(written: &mut usize) -> u8
-    ensures { (result ≡ 1) × (written.new ≡ 0) }
+    ensures number { result ≡ 1 }
+    ensures written { written.new ≡ 0 }
 {
     *written = 0;
     Refusal::Unsound as u8
@@ -43,9 +44,9 @@ pub extern "C" fn controller_start(
 ) -> u8
     ensures { StartImagePromise number bit image.old out.old result image.new out.new written.new }
 {
-    if image.len() != IMAGE_BYTES {
+    let Some(image) = image.as_mut_array::<IMAGE_BYTES>() else {
         return no_image(written);
-    }
+    };
     let answer = start(number, bit, out);
     *written = answer.length;
     if answer.refusal == 0 {
@@ -64,7 +65,10 @@ pub extern "C" fn controller_tray(
 ) -> u8
     ensures { TrayImagePromise image.old tray.now out.old result image.new out.new written.new }
 {
-    if !is_shaped(image) {
+    let Some(image) = image.as_mut_array::<IMAGE_BYTES>() else {
+        return no_image(written);
+    };
+    if !reserved_zero(image) {
         return no_image(written);
     }
     let mut state = take_apart(image);

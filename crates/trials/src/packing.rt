@@ -1,7 +1,7 @@
 // Frames on their way, and the tray that brings them, laid out as document 01, "Trays", has it.
-ghost use Rattle.std.specs.Prelude.{◌+◌, ◌*◌, ◌≤◌, ◌<◌, length};
+ghost use Rattle.std.specs.Prelude.{◌≡◌, ◌+◌, ◌*◌, ◌≤◌, ◌<◌, length};
 
-use wire::limits::{ENTRY_WIDTH, LENGTH_AT, MAX_FRAME, OFFSET_AT, TRAY_HEADER};
+use wire::limits::{ENTRIES_AT, ENTRY_WIDTH, LENGTH_AT, MAX_FRAME, OFFSET_AT, TRAY_HEADER};
 
 // The most frames of a tray.
 const MOST: usize = 3;
@@ -26,29 +26,22 @@ pub(crate) struct Tray {
     pub bytes: [u8; TRAY_ROOM],
 }
 
-// Stores a number in the two bytes at `at`.
-fn put_half(bytes: &mut [u8], at: usize, x: u16)
-    requires { at + 2 ≤ length bytes.old }
+// Stores a field's bytes at `at`.
+fn put<const N: usize>(bytes: &mut [u8], at: usize, field: [u8; N])
+    requires { at + N ≤ length bytes.old }
 {
-    bytes[at..at + 2].copy_from_slice(&x.to_be_bytes());
-}
-
-// Stores a number in the four bytes at `at`.
-fn put_word(bytes: &mut [u8], at: usize, x: u32)
-    requires { at + 4 ≤ length bytes.old }
-{
-    bytes[at..at + 4].copy_from_slice(&x.to_be_bytes());
+    bytes[at..at + N].copy_from_slice(&field);
 }
 
 // A tray of a round with room for a directory of `entries`.
 fn empty_tray(round: u32, entries: usize) -> Tray
     requires { entries ≤ MOST }
     ensures len { result.len ≤ 32 }
-    ensures placed { result.placed ≤ 0 }
+    ensures placed { result.placed ≡ 0 }
 {
     let mut bytes = [0; TRAY_ROOM];
-    put_word(&mut bytes, 0, round);
-    put_half(&mut bytes, 4, entries as u16);
+    put(&mut bytes, 0, round.to_be_bytes());
+    put(&mut bytes, ENTRIES_AT, (entries as u16).to_be_bytes());
     Tray {
         len: TRAY_HEADER + ENTRY_WIDTH * entries,
         placed: 0,
@@ -66,9 +59,17 @@ fn add(tray: &mut Tray, packet: Packet)
     let offset = tray.len;
     let len = packet.len.min(MAX_FRAME);
     let entry = TRAY_HEADER + ENTRY_WIDTH * tray.placed;
-    put_word(&mut tray.bytes, entry, packet.sender);
-    put_half(&mut tray.bytes, entry + OFFSET_AT, offset as u16);
-    put_half(&mut tray.bytes, entry + LENGTH_AT, len as u16);
+    put(&mut tray.bytes, entry, packet.sender.to_be_bytes());
+    put(
+        &mut tray.bytes,
+        entry + OFFSET_AT,
+        (offset as u16).to_be_bytes(),
+    );
+    put(
+        &mut tray.bytes,
+        entry + LENGTH_AT,
+        (len as u16).to_be_bytes(),
+    );
     tray.bytes[offset..offset + len].copy_from_slice(&packet.bytes[..len]);
     tray.len += len;
     tray.placed += 1;

@@ -144,7 +144,7 @@ fn bit_chosen(choice: Option<u8>) -> u8
     choice.unwrap_or(NO_BIT)
 }
 
-// The kind of what is said, and in `bit_said` its bit: two numbers of one value, each with its definition, so that neither is a `From`.
+// The kind of what is said, and in `bit_said` its bit: two numbers of one value, and `said_by` takes both. Each has its definition, and none is a `From`.
 pub fn kind_said(said: Said) -> u8
     ensures { result ≡ kind_said said }
 {
@@ -168,7 +168,7 @@ pub fn bit_said(said: Said) -> u8
 }
 
 // Whether numbers rise strictly from above 0. A loop with no way out is compiled to tests of four numbers at once. `numbers_rise` asks the same of numbers in
-// bytes: over an iterator of numbers both would be longer.
+// bytes: one function over an iterator would say it of what the iterator yields, and each caller what that is.
 pub fn rise(numbers: &[u32]) -> bool
     ensures { result ≡ rising 0 numbers.now }
 {

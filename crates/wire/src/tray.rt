@@ -1,5 +1,6 @@
 // Trays: the frames of one round, as a host hands them over. The layout is that of document 01, "Trays"; specs/Tray.antt says what each call
-// answers, outside the directory too: there a number is 0 and no `None`, as `round_of`, `entry_count` and `word_of` have it.
+// answers, outside the directory too: there a number is 0 and no `None`, as `round_of`, `entry_count` and `word_of` have it. Each reads its own field where
+// there is a header; what they share is one test.
 ghost use Rattle.std.specs.Prelude.{◌≡◌, ◌+◌, ◌≤◌, leb, length};
 ghost use Rattle.wire.specs.Limits.{entry_width, offset_at};
 ghost use Rattle.wire.specs.Tray.{well_formed, round_of, entry_count, entry_at, directory, word_of, chained, part};

@@ -1,4 +1,4 @@
-// Big-endian numbers in byte slices. Each width is a function of its own, as it is in std: one over both would say no less.
+// Big-endian numbers in byte slices. Each width is a function of its own, since std has no trait over the widths.
 ghost use Rattle.std.specs.Prelude.{◌≡◌, ◌+◌, ◌≤◌, ◌<◌, length};
 ghost use Rattle.std.proofs.lemmas.List.Edits.{sets};
 ghost use Rattle.wire.specs.Words.{half_at, word_at, word_bytes, half_bytes};
@@ -6,7 +6,8 @@ ghost use Rattle.wire.specs.Words.{half_at, word_at, word_bytes, half_bytes};
 // The two bytes at `at`, as a number.
 pub(crate) fn half(s: &[u8], at: usize) -> usize
     requires { at + 2 ≤ length s.now }
-    ensures { (result ≡ half_at s.now at) × (result < 65536) }
+    ensures number { result ≡ half_at s.now at }
+    ensures fits { result < 65536 }
 {
     u16::from_be_bytes([s[at], s[at + 1]]) as usize
 }
@@ -21,7 +22,8 @@ pub(crate) fn word(s: &[u8], at: usize) -> u32
 
 // Stores a number in the two bytes at `at`.
 pub(crate) fn put_half(s: &mut [u8], at: usize, x: usize)
-    requires { (at + 2 ≤ length s.old) × (x < 65536) }
+    requires room { at + 2 ≤ length s.old }
+    requires fits { x < 65536 }
     ensures { s.new ≡ sets s.old at (half_bytes x) }
 {
     s[at..at + 2].copy_from_slice(&(x as u16).to_be_bytes());

@@ -33,19 +33,18 @@ fn said_fits(said: Said) -> bool
 fn writable(frame: Frame, numbers: &[u32]) -> bool
     ensures { result ≡ writable (record { round = frame.round; said = frame.said; numbers = numbers.now }) }
 {
-    let round = frame.round;
-    let said = frame.said;
-    let kind = kind_said(said);
-    round_fits(round)
-        & (kind == kind_of(round))
-        & said_fits(said)
+    let kind = kind_said(frame.said);
+    round_fits(frame.round)
+        & (kind == kind_of(frame.round))
+        & said_fits(frame.said)
         & (numbers.len() <= max_count(kind))
         & rise(numbers)
 }
 
 // The header by its parts: round, kind, bit and count.
 fn lay_header(out: &mut [u8], round: u32, kind: u8, bit: u8, count: usize)
-    requires { (frame_header ≤ length out.old) × (count ≤ max_numbers) }
+    requires room { frame_header ≤ length out.old }
+    requires few { count ≤ max_numbers }
     ensures { out.new ≡ sets out.old 0 (header_bytes round kind bit count) }
 {
     put_word(out, 0, round);
@@ -55,13 +54,18 @@ fn lay_header(out: &mut [u8], round: u32, kind: u8, bit: u8, count: usize)
 }
 
 fn put_header(out: &mut [u8], frame: Frame, count: usize)
-    requires { (frame_header ≤ length out.old) × (count ≤ max_numbers) }
+    requires room { frame_header ≤ length out.old }
+    requires few { count ≤ max_numbers }
     ensures { out.new
         ≡ sets out.old 0 (header_bytes frame.round (kind_said frame.said) (bit_said frame.said) count) }
 {
-    let round = frame.round;
-    let said = frame.said;
-    lay_header(out, round, kind_said(said), bit_said(said), count);
+    lay_header(
+        out,
+        frame.round,
+        kind_said(frame.said),
+        bit_said(frame.said),
+        count,
+    );
 }
 
 fn put_numbers(out: &mut [u8], numbers: &[u32])

@@ -2,10 +2,11 @@
 --     taken_apart-laid_out   a sound state is what its image is taken apart to
 --     laid_out-taken_apart   a sound image is what the state in it is laid out to
 --     laid_out-sound         the image of a sound state is sound
-use Rattle.std.specs.Prelude.{ℕ, zero, suc, ◌+◌, ◌*◌, ◌-◌, ◌≤◌, ◌<◌, true, ◌≡◌, eqb, take, drop, replicate}
+use Rattle.std.specs.Prelude.{ℕ, zero, suc, ◌+◌, ◌*◌, ◌-◌, ◌≤◌, ◌<◌, true, false, ◌≡◌, ◌≢◌, eqb, take, drop, replicate}
 use Rattle.std.proofs.Math.Bool.{and-eq-true_iff}
 use Rattle.std.proofs.Math.Path.{refl, sym, ap}
-use Rattle.std.proofs.Common.{◌∙◌, eqb-true, eq-eqb, length-drop, length-take, take-append-drop, take_at, get_or-drop, List, [], ◌∷◌, ◌++◌, append_assoc, arith}
+use Rattle.std.proofs.Common.{List, [], ◌∷◌, ◌++◌, ◌∙◌, eqb-true, eq-eqb, ne_eqb, append_assoc, arith}
+use Rattle.std.proofs.Common.{length-drop, length-take, take-append-drop, take_at, get_or-drop}
 use Rattle.std.proofs.Math.ListN.{get_or-eq_default, length, get_or, length-append}
 use Rattle.std.proofs.lemmas.List.{length-replicate, drop-append-le}
 use Rattle.std.proofs.Math.Seq.{slice, drop_at, length-take-le, get_or-take}
@@ -35,7 +36,7 @@ pub record SizedLists (s : State) : Type 0 where
   pub candidates : Sized s.candidates
   pub echoes : Sized s.echoes
 
-pub rules_sized : (s : State) → sound_rules s ≡ true → SizedLists s
+rules_sized : (s : State) → sound_rules s ≡ true → SizedLists s
 rules_sized s h =
     let g = rules_give s h in
     let e = sym (rules_stored s h) in
@@ -44,6 +45,9 @@ rules_sized s h =
       candidates = list_sized s.candidates (ap (λ (t : State). sound_list t.candidates) e ∙ sound_list_test (listed s.candidates) g.candidates);
       echoes = list_sized s.echoes (ap (λ (t : State). sound_list t.echoes) e ∙ sound_list_test (listed s.echoes) g.echoes);
     }
+
+pub sound_sized : (s : State) → sound s ≡ true → SizedLists s
+sound_sized s h = rules_sized s (sound_rules_lem s h)
 
 pub list_bytes_length : (n : Numbers) → Sized n → length (list_bytes n) ≡ list_width
 list_bytes_length n z = let p = z.places in omega (arith, numbers_bytes_length n.at)
@@ -78,6 +82,14 @@ shaped_gives b h =
 
 pub shaped_length : (b : List ℕ) → shaped b ≡ true → length b ≡ image_bytes
 shaped_length b h = (shaped_gives b h).0
+
+pub whole_shaped : (b : List ℕ) → length b ≡ image_bytes → shaped b ≡ zeros (drop reserved_at b)
+unfolding shaped
+whole_shaped b h = rw (eq-eqb _ _ h)
+
+pub other_unshaped : (b : List ℕ) → length b ≢ image_bytes → shaped b ≡ false
+unfolding shaped
+other_unshaped b h = rw (ne_eqb _ _ h)
 
 -- what a sound image is, test by test
 pub record SoundImage (b : List ℕ) : Type 0 where
@@ -246,7 +258,7 @@ module _ (s : State) (z : SizedLists s) (places : length s.since ≡ max_numbers
       }
 
 pub taken_apart-laid_out : (s : State) → sound s ≡ true → taken_apart (laid_out s) ≡ s
-taken_apart-laid_out s h = fields_back s (rules_sized s (sound_rules_lem s h)) (since_places s h)
+taken_apart-laid_out s h = fields_back s (sound_sized s h) (since_places s h)
 
 -- ---- taken apart, then laid out
 
@@ -319,6 +331,6 @@ zeros_from_lem at = zeros_replicate (image_bytes - at)
 pub laid_out-sound : (s : State) → sound s ≡ true → sound_image (laid_out s) ≡ true
 unfolding sound_image shaped
 laid_out-sound s h =
-    let z = rules_sized s (sound_rules_lem s h) in
+    let z = sound_sized s h in
     let p = since_places s h in
     rw (eq-eqb (length (laid_out s)) image_bytes (laid_out_length s z p), reserved_zero s z p, zeros_from_lem reserved_at, taken_apart-laid_out s h) h

@@ -33,23 +33,24 @@ module _ {s : State} {b f : List ℕ} (ready : Ready s b f) (p : ℕ) (at : p �
   opinion_is turn a d absent read = ready_opinion ready turn p s.king a placed.0 placed.1 absent ∙ rw (← read)
 
 king_inside : (c : Else-not-has_at) → c.place_in-place.result < max_numbers
-king_inside c = inside c.requires.0 _ c.place_in-place.ensures (sym c.has_at.ensures ∙ c.if-not-has_at.false)
+king_inside c = inside c.requires.ready _ c.place_in-place.ensures (sym c.has_at.ensures ∙ c.if-not-has_at.false)
 
 opinion : (c : After-received_bit) (d : ℕ)
     → d ≡ bit_under c.args.state.now.round c.opinion_of-absent.result c.args.noted.now.tray.now (get_or c.args.noted.now.notes c.place_in-place.result 0)
     → king_opinion (view c.args.state.now) (received_by c.args.state.now c.args.noted.now.tray.now) ≡ cond (leb d 1) d 2
 opinion c d =
     let there = sym c.has_at.ensures ∙ c.if-not-has_at.false in
-    opinion_is c.requires.0 _ c.place_in-place.ensures there c.requires.1 _ d c.opinion_of-absent.ensures
+    opinion_is c.requires.ready _ c.place_in-place.ensures there c.requires.kind _ d c.opinion_of-absent.ensures
 
 pub place_in-place-requires : goal.place_in-place-requires
-place_in-place-requires c = rules_heard c.args.state.now c.requires.0.sound
+place_in-place-requires c = rules_heard c.args.state.now c.requires.ready.sound
 
-pub has_at-requires : goal.has_at-requires
-has_at-requires c = (rules_heard c.args.state.now c.requires.0.sound, c.place_in-place.ensures)
+pub has_at-requires-clause-sound : goal.has_at-requires-clause-sound
+has_at-requires-clause-sound c = rules_heard c.args.state.now c.requires.ready.sound
 
-pub returns-then-not-has_at : goal.returns-then-not-has_at
-returns-then-not-has_at c = sym (ap opinion_in (ready_unheard c.requires.0 c.args.state.now.king (sym c.has_at.ensures ∙ c.if-not-has_at.true)))
+pub returns-then-not-has_at-clause-opinion : goal.returns-then-not-has_at-clause-opinion
+returns-then-not-has_at-clause-opinion c =
+    sym (ap opinion_in (ready_unheard c.requires.ready c.args.state.now.king (sym c.has_at.ensures ∙ c.if-not-has_at.true)))
 
 pub offset_bounds-noted-place : goal.offset_bounds-noted-place
 offset_bounds-noted-place c = omega (arith, king_inside (goal.at.offset_bounds-noted-place c).Else-not-has_at)
@@ -57,11 +58,13 @@ offset_bounds-noted-place c = omega (arith, king_inside (goal.at.offset_bounds-n
 pub bounds-noted-place : goal.bounds-noted-place
 bounds-noted-place c = king_inside (goal.at.bounds-noted-place c).Else-not-has_at
 
-pub returns-in-Some : goal.returns-in-Some
-returns-in-Some c = sym (opinion (goal.at.returns-in-Some c).After-received_bit c.in-Some.bit c.in-Some.ensures ∙ rw (le-leb _ 1 c.if-bit-le1.true))
+pub returns-in-Some-clause-opinion : goal.returns-in-Some-clause-opinion
+returns-in-Some-clause-opinion c =
+    sym (opinion (goal.at.returns-in-Some-clause-opinion c).After-received_bit c.in-Some.bit c.in-Some.ensures ∙ rw (le-leb _ 1 c.if-bit-le1.true))
 
-pub returns-in_default : goal.returns-in_default
-returns-in_default c = sym (opinion (goal.at.returns-in_default c).After-received_bit c.in-Some.bit c.in-Some.ensures ∙ rw (lt-leb _ 1 c.if-bit-le1.false))
+pub returns-in_default-clause-opinion : goal.returns-in_default-clause-opinion
+returns-in_default-clause-opinion c =
+    sym (opinion (goal.at.returns-in_default-clause-opinion c).After-received_bit c.in-Some.bit c.in-Some.ensures ∙ rw (lt-leb _ 1 c.if-bit-le1.false))
 
-pub returns-in_default-2 : goal.returns-in_default-2
-returns-in_default-2 c = sym (opinion (goal.at.returns-in_default-2 c).After-received_bit 3 c.in_default.ensures)
+pub returns-in_default-2-clause-opinion : goal.returns-in_default-2-clause-opinion
+returns-in_default-2-clause-opinion c = sym (opinion (goal.at.returns-in_default-2-clause-opinion c).After-received_bit 3 c.in_default.ensures)

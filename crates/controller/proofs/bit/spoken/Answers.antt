@@ -37,5 +37,5 @@ returns c r active counts heard =
     let said = c.opinion_of.ensures in
     elim c.if-bit-eq0.branch [
       | then-bit-eq0 w ↦ turned_zero v active counts heard bit said _ _ w.if-bit-eq0.true w.count-is c.strong_of.ensures
-      | else-bit-eq0 w ↦ turned_one v active counts heard bit said _ _ c.requires.1 w.if-bit-eq0.false w.count-is c.strong_of.ensures
+      | else-bit-eq0 w ↦ turned_one v active counts heard bit said _ _ c.requires.bit w.if-bit-eq0.false w.count-is c.strong_of.ensures
     ]

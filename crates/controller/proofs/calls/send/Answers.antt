@@ -32,4 +32,4 @@ returns-then-state-ne-NO_BIT c sound =
 
 pub returns : goal.returns
 returns c =
-    lays _ _ _ _ _ (eq-eqb _ _ c.if-state-ne-NO_BIT.false) c.requires.0 c.sent_count.ensures c.lay_frame.ensures
+    lays _ _ _ _ _ (eq-eqb _ _ c.if-state-ne-NO_BIT.false) c.requires.room c.sent_count.ensures c.lay_frame.ensures

@@ -1,6 +1,6 @@
 -- `controller::calls::work_checked` meets its contract: the step is that of the state which has heard all senders, and that is the step of the state before;
 -- where it is not taken, a sender that does not fit gives 6, too many heard give 7, and lists that do not fit give 8.
-use Rattle.std.specs.Prelude.{ℕ, ◌≤◌, Bool, true, false, cond, ◌&&◌, List, ◌≡◌, refl}
+use Rattle.std.specs.Prelude.{ℕ, ◌≤◌, Bool, true, false, cond, ◌&&◌, List, ◌≡◌, refl, is_some}
 use Rattle.std.proofs.Common.{◌∙◌, sym, ap}
 use Rattle.controller.specs.First.{rounds_after}
 use Rattle.controller.specs.Laws.First.{next_stays_sound}
@@ -78,26 +78,27 @@ module _ {s : State} {b read f : List ℕ} {n : ℕ} {all : Numbers} {m : Bool} 
 pub hear-requires : goal.hear-requires
 hear-requires c = rules_heard _ (sound_rules_lem _ c.requires.sound)
 
-pub step-requires : goal.step-requires
-step-requires c = (rw c.in-Some.ensures.0 (hearing_ready c.requires c.args.tray.packed c.in-Some.ensures.1 refl), c.requires.early)
+pub step-requires-clause-ready : goal.step-requires-clause-ready
+step-requires-clause-ready c = rw c.in-Some.ensures.0 (hearing_ready c.requires c.args.tray.packed c.in-Some.ensures.1 refl)
 
 pub take_over-requires : goal.take_over-requires
-take_over-requires c = grown c.requires c.args.tray.packed c.in-Some.ensures c.step.ensures c.if-not-step.false
+take_over-requires c = grown c.requires c.args.tray.packed c.in-Some.ensures c.step.ensures (c.is_none.ensures ∙ rw c.if-is_none.false)
 
-pub send-requires : goal.send-requires
-send-requires c = (c.requires.room, few_echoes c.requires c.args.tray.packed c.in-Some.ensures c.step.ensures c.if-not-step.false)
+pub send-requires-clause-few : goal.send-requires-clause-few
+send-requires-clause-few c = few_echoes c.requires c.args.tray.packed c.in-Some.ensures c.step.ensures (c.is_none.ensures ∙ rw c.if-is_none.false)
 
 pub returns : goal.returns
 returns c =
-    let taken = c.if-not-step.false in
+    let taken = c.is_none.ensures ∙ rw c.if-is_none.false in
     promise_sent _ _ _ (passed c.requires c.args.tray.packed c.in-Some.ensures c.step.ensures taken)
     (whole c.requires c.args.tray.packed c.in-Some.ensures c.step.ensures taken c.take_over.ensures)
     (sent c.requires c.args.tray.packed c.in-Some.ensures c.step.ensures taken c.take_over.ensures c.send.ensures)
 
-pub returns-then-not-step : goal.returns-then-not-step
-returns-then-not-step c =
-    promise_left TooManyListed _ (refusal c.requires c.args.tray.packed c.in-Some.ensures c.step.ensures ∙ rw c.if-not-step.true)
-    (kept c.requires c.args.tray.packed c.in-Some.ensures c.step.ensures c.if-not-step.true)
+pub returns-then-is_none : goal.returns-then-is_none
+returns-then-is_none c =
+    let left : is_some c.step.result ≡ false = c.is_none.ensures ∙ rw c.if-is_none.true in
+    promise_left TooManyListed _ (refusal c.requires c.args.tray.packed c.in-Some.ensures c.step.ensures ∙ rw left)
+    (kept c.requires c.args.tray.packed c.in-Some.ensures c.step.ensures left)
 
 pub returns-then-senders_fit : goal.returns-then-senders_fit
 returns-then-senders_fit c =

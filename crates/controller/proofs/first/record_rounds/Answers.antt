@@ -41,7 +41,7 @@ module _ (l all w : List ℕ) (t j : ℕ) where
 
 pub bounds-old-place : goal.bounds-old-place
 bounds-old-place c =
-    let tests = sound_list_gives c.args.heard.now c.requires.0 in
+    let tests = sound_list_gives c.args.heard.now c.requires.sound in
     omega (arith, tests.list.short, found_inside _ _ (listed c.args.heard.now) c.in-Ok.ensures)
 
 pub loop-j-preserved : goal.loop-j-preserved

@@ -6,4 +6,4 @@ use Rattle.controller.proofs.first.rounds_sound.Goals as goal
 pub returns : goal.returns
 returns c l size up =
     rw (c.zeros-used.ensures, c.zeros-all.ensures, c.all_timely.ensures)
-    (rounds_sound_is c.args.since.now c.args.len (omega arith) c.requires.0 l c.args.own size up c.requires.1)
+    (rounds_sound_is c.args.since.now c.args.len (omega arith) c.requires.few l c.args.own size up c.requires.inside)

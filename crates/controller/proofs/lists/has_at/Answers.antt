@@ -19,8 +19,8 @@ module _ (list : Numbers) (i x : ℕ) (tests : ListTests list) (place : i ≡ be
 
 pub returns-then-i-list : goal.returns-then-i-list
 returns-then-i-list c =
-    finds c.args.list.now c.args.i c.args.x (sound_list_gives c.args.list.now c.requires.0) c.requires.1 c.if-i-list.true
+    finds c.args.list.now c.args.i c.args.x (sound_list_gives c.args.list.now c.requires.sound) c.requires.place c.if-i-list.true
 
 pub returns-else-i-list : goal.returns-else-i-list
 returns-else-i-list c =
-    misses c.args.list.now c.args.i c.args.x (sound_list_gives c.args.list.now c.requires.0) c.requires.1 c.if-i-list.false
+    misses c.args.list.now c.args.i c.args.x (sound_list_gives c.args.list.now c.requires.sound) c.requires.place c.if-i-list.false

@@ -6,4 +6,4 @@ use Rattle.controller.proofs.lists.insert_at.Goals as goal
 pub returns : goal.returns
 returns c =
     let list = c.args.list.now in
-    opened_stored list c.args.to c.args.x _ (sound_list_gives list c.requires.0).back c.requires.2 c.requires.1 c.open_at.ensures
+    opened_stored list c.args.to c.args.x _ (sound_list_gives list c.requires.sound).back c.requires.room c.requires.inside c.open_at.ensures

@@ -1,25 +1,20 @@
--- `controller::lists::open_at` meets its contract: the places always are those of the list opened at place i, once x is put there.
-use Rattle.std.proofs.Common.{arith, length, get_or, set, ◌≡◌, ◌+◌, ◌-◌, ◌≤◌, ◌<◌, ℕ, List}
-use Rattle.controller.specs.Laws.Work.Lists.{opened_first, opened_step}
+-- `controller::lists::open_at` meets its contract: what stands from `to` on is copied one place further, and x takes its first place.
+use Rattle.std.specs.List.{copy_within}
+use Rattle.std.proofs.Common.{ℕ, ◌+◌, ◌-◌, ◌≤◌, ◌<◌, List, [], ◌∷◌, ◌++◌, ◌≡◌, ◌∙◌, length, take, drop, set, arith, append_assoc, length-take-le, ap, sym}
+use Rattle.std.proofs.lemmas.List.{drop-take, set-append_left, take_more_set}
+use Rattle.std.proofs.Math.Seq.{take-set-lt}
 use Rattle.controller.specs.Work.Lists.{opened}
 use Rattle.controller.proofs.lists.open_at.Goals as goal
 
-turn : (x n i : ℕ) (s at : List ℕ) → 0 < i → i ≤ n → n ≤ length s → set at i x ≡ opened i x n s
-    → set (set at (i - 1 + 1) (get_or at (i - 1) 0)) (i - 1) x ≡ opened (i - 1) x n s
-turn x n i s at p h k e =
-    let up : i - 1 + 1 ≡ i = omega arith in
-    opened_step x n (i - 1) s at (omega arith) k (rw up e)
-
-pub loop-i-init : goal.loop-i-init
-loop-i-init c = record { behind = omega arith; moved = opened_first c.args.x c.args.len c.args.at.now (omega arith) }
-
-pub loop-i-preserved : goal.loop-i-preserved
-loop-i-preserved c = record {
-  behind = omega arith;
-  moved = turn c.args.x c.args.len c.loop-i.i c.args.at.now c.loop-i.at (omega arith) (omega arith) (omega arith) c.loop-i.invariant.moved;
-}
+moved : (x n i : ℕ) (s : List ℕ) → i ≤ n → n < length s → set (copy_within s i n (i + 1)) i x ≡ opened i x n s
+moved x n i s h k =
+    let far : i + 1 + (n - i) ≡ n + 1 = omega arith in
+    let there : i + (n - i) ≡ n = omega arith in
+    let part : take (n - i) (drop i s) ≡ drop i (take n s) = sym (drop-take i (n - i) s) ∙ ap (λ (m : ℕ). drop i (take m s)) there in
+    let front : set (take (i + 1) s) i x ≡ take i s ++ x ∷ [] = sym (take-set-lt (i + 1) s i x (omega arith)) ∙ take_more_set s i x (omega arith) in
+    ap (λ (l : List ℕ). set l i x) (append_assoc (take (i + 1) s) (take (n - i) (drop i s)) (drop (i + 1 + (n - i)) s))
+    ∙ set-append_left (take (i + 1) s) (take (n - i) (drop i s) ++ drop (i + 1 + (n - i)) s) i x (omega (arith, length-take-le (i + 1) s (omega arith)))
+    ∙ rw (front, far, part) (append_assoc (take i s) (x ∷ []) (drop i (take n s) ++ drop (n + 1) s))
 
 pub returns : goal.returns
-returns c =
-    let e : c.loop-i.i ≡ c.args.to = omega arith in
-    rw e at c.loop-i.invariant.moved
+returns c = rw c.copy_within.ensures.after (moved c.args.x c.args.len c.args.to c.args.at.now (omega arith) (omega arith))

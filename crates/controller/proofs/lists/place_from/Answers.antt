@@ -22,12 +22,12 @@ module _ (n : Numbers) (x : ℕ) (t : ListTests n) where
 pub returns-then-x-list : goal.returns-then-x-list
 returns-then-x-list c =
     let n = c.args.list.now in
-    stops n c.args.x (sound_list_gives n c.requires.0) c.loop-i.i c.loop-i.invariant c.loop-i-test.true c.if-x-list.true
+    stops n c.args.x (sound_list_gives n c.requires.sound) c.loop-i.i c.loop-i.invariant c.loop-i-test.true c.if-x-list.true
 
 pub loop-i-preserved : goal.loop-i-preserved
 loop-i-preserved c =
     let n = c.args.list.now in
-    passes n c.args.x (sound_list_gives n c.requires.0) c.loop-i.i c.loop-i-test.true c.if-x-list.false
+    passes n c.args.x (sound_list_gives n c.requires.sound) c.loop-i.i c.loop-i-test.true c.if-x-list.false
 
 pub returns : goal.returns
-returns c = omega (arith, most c.args.list.now c.args.x (sound_list_gives c.args.list.now c.requires.0))
+returns c = omega (arith, most c.args.list.now c.args.x (sound_list_gives c.args.list.now c.requires.sound))

@@ -71,7 +71,7 @@ module _ (b : List ℕ) (bytes : Below 256 b) (k t : ℕ) (word : k < 4294967296
         words = subst (Below end_mark) is (words_below b bytes (o + 8) r);
       }
 
-pub returns-in-At : goal.returns-in-At
-returns-in-At c =
+pub returns-in-At-clause-span : goal.returns-in-At-clause-span
+returns-in-At-clause-span c =
     let at = sym c.found_by.ensures ∙ c.in-At.is in
-    (found _ (λ i. (c.type_inv.tray i).fits) _ _ c.ranges.note.fits _ _ _ _ at c.part_of.ensures c.list_count.ensures, refl)
+    found _ (λ i. (c.type_inv.tray i).fits) _ _ c.ranges.note.fits _ _ _ _ at c.part_of.ensures c.list_count.ensures

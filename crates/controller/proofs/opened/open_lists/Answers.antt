@@ -11,11 +11,16 @@ inside {h} notes low = omega (arith, length-take h notes)
 pub shared_ref_as_front-note-items : goal.shared_ref_as_front-note-items
 shared_ref_as_front-note-items c = ready_few c.requires
 
-pub own_alone-opened-requires : goal.own_alone-opened-requires
-own_alone-opened-requires c =
-    let short = (own_sound c.requires).0 in
+pub own_alone-opened-requires-clause-few : goal.own_alone-opened-requires-clause-few
+own_alone-opened-requires-clause-few c = rw c.sent_count.ensures (own_sound c.requires).0
+
+pub own_alone-opened-requires-clause-inside : goal.own_alone-opened-requires-clause-inside
+own_alone-opened-requires-clause-inside c = omega (arith, c.sent_count.ensures, (own_sound c.requires).0, own_places c.requires)
+
+pub own_alone-opened-requires-clause-list : goal.own_alone-opened-requires-clause-list
+own_alone-opened-requires-clause-list c =
     let own = (own_sound c.requires).1 in
-    rw c.sent_count.ensures (short, omega (arith, short, own_places c.requires), record { rises = own.rises; positive = own.positive })
+    rw c.sent_count.ensures (record { rises = own.rises; positive = own.positive })
 
 pub loop-note-init : goal.loop-note-init
 loop-note-init c = opening_start c.requires _ _ c.sent_count.ensures c.own_alone-opened.ensures

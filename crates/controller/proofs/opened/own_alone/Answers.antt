@@ -37,4 +37,4 @@ alone_opens {e} b {n} numbers short whole list =
 
 pub invariant_of-result : goal.invariant_of-result
 invariant_of-result c =
-    record { opens = alone_opens c.args.tray.now (λ i. (c.type_inv.own i).fits) c.requires.0 c.requires.1 c.requires.2 }
+    record { opens = alone_opens c.args.tray.now (λ i. (c.type_inv.own i).fits) c.requires.few c.requires.inside c.requires.list }

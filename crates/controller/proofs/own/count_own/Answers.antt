@@ -27,8 +27,8 @@ shared h round s b t m n few is shares =
           (λ j i. ap (list_under round m b) (get_or-take h t j 0 i)) (rw (size, is) at (shares.agrees round)),
     )
 
-pub write_own-len-requires : goal.write_own-len-requires
-write_own-len-requires c = (omega arith, (own_sound c.requires).0)
+pub write_own-len-requires-clause-few : goal.write_own-len-requires-clause-few
+write_own-len-requires-clause-few c = (own_sound c.requires).0
 
 pub shared_ref_as_front-count_list : goal.shared_ref_as_front-count_list
 shared_ref_as_front-count_list c = ready_few c.requires

@@ -17,7 +17,7 @@ use Rattle.controller.proofs.own.write_own.Goals.{then-kind_of-eq-TURN, else-kin
 use Rattle.controller.proofs.own.write_own.Goals as goal
 
 pub shared_ref_as_front-own : goal.shared_ref_as_front-own
-shared_ref_as_front-own c = omega (arith, c.sent_count.ensures, c.requires.1)
+shared_ref_as_front-own c = omega (arith, c.sent_count.ensures, c.requires.few)
 
 module _ (s : State) (sound : sound_rules s ≡ true) (active : undecided (view s) ≡ true) where
   reads : (given : List ℕ) → max_frame ≤ length given → (b n r : ℕ) (left : List ℕ) → b ≡ silent_bit (view s) → n ≡ sent_count s
@@ -44,5 +44,5 @@ returns c =
     let lays = c.lay_frame.ensures in
     record {
       inside = omega (arith, lays_inside _ _ _ _ _ _ lays, c.lay_frame.auto.out);
-      own = λ sound active. reads s sound active _ c.requires.0 _ _ _ _ bit c.sent_count.ensures lays;
+      own = λ sound active. reads s sound active _ c.requires.room _ _ _ _ bit c.sent_count.ensures lays;
     }

@@ -34,7 +34,7 @@ module _ {s : State} {b f : List ℕ} (ready : Ready s b f) (short : Short s.rou
   ended h = sum ∙ ap (count_if (counted s b bit)) (take_all j (listed s.heard) (omega (arith, h, ready_used ready)) ∙ ready_listed ready)
 
 pub shared_ref_as_front-note-items : goal.shared_ref_as_front-note-items
-shared_ref_as_front-note-items c = ready_few c.requires.0
+shared_ref_as_front-note-items c = ready_few c.requires.ready
 
 pub loop-note-preserved : goal.loop-note-preserved
 loop-note-preserved c =
@@ -43,19 +43,19 @@ loop-note-preserved c =
     let inside : v.note-index < c.args.state.now.heard.len = omega (arith, length-take c.args.state.now.heard.len notes) in
     let note : get_or (take c.args.state.now.heard.len notes) v.note-index 0 ≡ get_or notes v.note-index 0 = get_or-take _ notes _ 0 inside in
     let head = c.short_head-head.result in
-    let said = rw note at (c.short_head-head.ensures _ _ c.requires.1 c.head_of-own.ensures) in (
+    let said = rw note at (c.short_head-head.ensures _ _ c.requires.short c.head_of-own.ensures) in (
       omega (arith, one (eqb head c.head_of-zero.result)),
       omega (arith, one (eqb head c.head_of-one.result)),
-      turn c.requires.0 c.requires.1 0 v.note-index v.zeros v.invariant.2 head _ (omega arith) inside said c.head_of-zero.ensures,
-      turn c.requires.0 c.requires.1 1 v.note-index v.ones v.invariant.3 head _ (omega arith) inside said c.head_of-one.ensures,
+      turn c.requires.ready c.requires.short 0 v.note-index v.zeros v.invariant.2 head _ (omega arith) inside said c.head_of-zero.ensures,
+      turn c.requires.ready c.requires.short 1 v.note-index v.ones v.invariant.3 head _ (omega arith) inside said c.head_of-one.ensures,
     )
 
 pub returns : goal.returns
 returns c =
     let v = c.loop-note in
     let all : length (take c.args.state.now.heard.len c.args.noted.now.notes) ≡ c.args.state.now.heard.len =
-    length-take-le _ c.args.noted.now.notes (omega (arith, ready_few c.requires.0)) in
+    length-take-le _ c.args.noted.now.notes (omega (arith, ready_few c.requires.ready)) in
     record {
-      zeros = ended c.requires.0 c.requires.1 0 v.note-index v.zeros v.invariant.2 (omega (arith, all));
-      ones = ended c.requires.0 c.requires.1 1 v.note-index v.ones v.invariant.3 (omega (arith, all));
+      zeros = ended c.requires.ready c.requires.short 0 v.note-index v.zeros v.invariant.2 (omega (arith, all));
+      ones = ended c.requires.ready c.requires.short 1 v.note-index v.ones v.invariant.3 (omega (arith, all));
     }

@@ -85,8 +85,8 @@ returns-then-sender-eq0 c =
           hears_full there so_far (unknown near c.in-Err.at c.in-Err.ensures).0 w.if-heard-ge-MAX_NUMBERS.true _ _
     ]
 
-pub open_at-requires : goal.open_at-requires
-open_at-requires c = ((small (goal.at.open_at-requires c).After-find_near c.in-Err.at c.in-Err.ensures).0, c.if-heard-ge-MAX_NUMBERS.false)
+pub open_at-requires-clause-inside : goal.open_at-requires-clause-inside
+open_at-requires-clause-inside c = (small (goal.at.open_at-requires-clause-inside c).After-find_near c.in-Err.at c.in-Err.ensures).0
 
 pub overflow_add-next : goal.overflow_add-next
 overflow_add-next c =

@@ -40,7 +40,7 @@ found c =
     elim c.if-stands_before.branch [
       | then-stands_before w ↦
           subst (Placed n x) (sym w.place-is)
-          (just_before n c.requires.0 x c.loop-i.place c.loop-i.invariant.0 (c.stands_before.ensures w.if-stands_before.true))
+          (just_before n c.requires.sound x c.loop-i.place c.loop-i.invariant.0 (c.stands_before.ensures w.if-stands_before.true))
       | else-stands_before+in-Ok w ↦
           subst (Placed n x) (sym w.place-is) (found_known x _ (listed n) w.in-Ok.ensures)
     ] in
@@ -49,7 +49,7 @@ found c =
 -- the place is one of those used, and of 64
 used : (c : Joined-stands_before) → (c.if-stands_before.place < c.args.heard.now.len) × (c.args.heard.now.len ≤ max_numbers)
 used c =
-    let was = sound_list_gives c.args.heard.now c.requires.0 in
+    let was = sound_list_gives c.args.heard.now c.requires.sound in
     let so_far = c.loop-i.invariant.1 in
     let test = c.loop-i-test.true in
     let short = known_short (counted so_far test) (behind so_far test) (found c).0 in
@@ -61,7 +61,7 @@ inside c = omega (arith, used c)
 pub loop-i-init : goal.loop-i-init
 loop-i-init c =
     let count = entries_counted c.args.tray.bytes.now c.directory-entries.ensures c.args.tray.packed in
-    (omega arith, hears_none _ c.args.tray.bytes.now _ _ _ count c.requires.0 c.requires.1)
+    (omega arith, hears_none _ c.args.tray.bytes.now _ _ _ count c.requires.sound c.requires.empty)
 
 pub offset_bounds-notes-place : goal.offset_bounds-notes-place
 offset_bounds-notes-place c = omega (arith, inside (goal.at.offset_bounds-notes-place c).Joined-stands_before)

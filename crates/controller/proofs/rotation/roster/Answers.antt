@@ -71,14 +71,14 @@ module _ {s : State} {b f : List ℕ} (ready : Ready s b f) (first : kind_of s.r
   left e = list ∙ ap stored (sym (fails (sent_init s b) (listed s.heard) j within (sym asked ∙ e)))
 
 pub loop-j-init : goal.loop-j-init
-loop-j-init c = (ready_few c.requires.0, omega (arith, ap (λ (n : Numbers). n.len) c.no_numbers-list.ensures), c.no_numbers-list.ensures)
+loop-j-init c = (ready_few c.requires.ready, omega (arith, ap (λ (n : Numbers). n.len) c.no_numbers-list.ensures), c.no_numbers-list.ensures)
 
 pub loop-j-preserved : goal.loop-j-preserved
 loop-j-preserved c =
     let j = c.loop-j.j in
     let bit = c.received_bit-bit in
-    let ready = c.requires.0 in
-    let first = c.requires.1 in
+    let ready = c.requires.ready in
+    let first = c.requires.kind in
     let so_far = c.loop-j.invariant in
     let inside = c.loop-j-test.true in
     let room : c.loop-j.list.len < max_numbers = omega arith in
@@ -100,4 +100,4 @@ unfolding roster
 returns c =
     c.loop-j.invariant.2
     ∙ ap (λ (l : List ℕ). stored (keep (sent_init c.args.state.now c.args.noted.now.tray.now) l))
-    (take_all c.loop-j.j (listed c.args.state.now.heard) (omega (arith, ready_used c.requires.0)) ∙ ready_listed c.requires.0)
+    (take_all c.loop-j.j (listed c.args.state.now.heard) (omega (arith, ready_used c.requires.ready)) ∙ ready_listed c.requires.ready)

@@ -28,12 +28,16 @@ module _ (n : Numbers) (own i : ℕ) (sound : sound_list n ≡ true) (heard : tr
 pub returns-then-not-lists_sound : goal.returns-then-not-lists_sound
 returns-then-not-lists_sound c = parts c.args.state.now _ _ c.if-not-lists_sound.ensures refl
 
-pub rounds_sound-requires : goal.rounds_sound-requires
-rounds_sound-requires c =
+pub rounds_sound-requires-clause-few : goal.rounds_sound-requires-clause-few
+rounds_sound-requires-clause-few c =
     let s = c.args.state.now in
-    let heard = lists_sound_heard s (sym c.if-not-lists_sound.ensures) in
-    let tests = sound_list_gives s.heard heard in
-    (omega (arith, tests.used, tests.list.short), inside s.heard s.own _ heard c.if-has_at.ensures c.place_in-place.ensures)
+    let tests = sound_list_gives s.heard (lists_sound_heard s (sym c.if-not-lists_sound.ensures)) in
+    omega (arith, tests.used, tests.list.short)
+
+pub rounds_sound-requires-clause-inside : goal.rounds_sound-requires-clause-inside
+rounds_sound-requires-clause-inside c =
+    let s = c.args.state.now in
+    inside s.heard s.own _ (lists_sound_heard s (sym c.if-not-lists_sound.ensures)) c.if-has_at.ensures c.place_in-place.ensures
 
 pub returns-then-has_at : goal.returns-then-has_at
 returns-then-has_at c =

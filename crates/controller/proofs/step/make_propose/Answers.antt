@@ -4,8 +4,8 @@ use Rattle.controller.specs.Laws.Work.Ready.{ready_few}
 use Rattle.controller.specs.Laws.Work.Step.{ready_short_round, counted, propose_made}
 use Rattle.controller.proofs.step.make_propose.Goals as goal
 
-pub count_bits-counts-requires : goal.count_bits-counts-requires
-count_bits-counts-requires c = (c.requires.0, ready_short_round c.requires.0 0 (omega arith) c.requires.1)
+pub count_bits-counts-requires-clause-short : goal.count_bits-counts-requires-clause-short
+count_bits-counts-requires-clause-short c = ready_short_round c.requires.0 0 (omega arith) c.requires.1
 
 pub proposal-state-requires : goal.proposal-state-requires
 proposal-state-requires c = omega (arith, ready_few c.requires.0)

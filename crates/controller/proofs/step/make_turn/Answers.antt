@@ -5,8 +5,8 @@ use Rattle.controller.specs.Laws.Work.Ready.{ready_few, ready_size}
 use Rattle.controller.specs.Laws.Work.Step.{ready_short_round, counted, turn_made}
 use Rattle.controller.proofs.step.make_turn.Goals as goal
 
-pub count_bits-requires : goal.count_bits-requires
-count_bits-requires c = (c.requires.0, ready_short_round c.requires.0 1 (omega arith) c.requires.1)
+pub count_bits-requires-clause-short : goal.count_bits-requires-clause-short
+count_bits-requires-clause-short c = ready_short_round c.requires.0 1 (omega arith) c.requires.1
 
 pub spoken-turn-requires : goal.spoken-turn-requires
 spoken-turn-requires c = omega (arith, ready_few c.requires.0, (rules_give _ c.requires.0.sound).bit)

@@ -8,6 +8,6 @@ use Rattle.controller.proofs.step.step.Goals as goal
 
 pub make_turn-requires : goal.make_turn-requires
 make_turn-requires c =
-    let ready = c.requires.0 in
+    let ready = c.requires.ready in
     let t = c.args.state.now.round + 1 in
-    (ready, omega (arith, kind_above t, (kind_range t).1, (rules_give _ ready.sound).early), c.requires.1)
+    (ready, omega (arith, kind_above t, (kind_range t).1, (rules_give _ ready.sound).early), c.requires.early)

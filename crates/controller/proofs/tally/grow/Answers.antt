@@ -2,8 +2,8 @@
 use Rattle.controller.specs.Laws.Work.Grow.{sorted_grows, crowded_keeps}
 use Rattle.controller.proofs.tally.grow.Goals as goal
 
-pub returns-in_default : goal.returns-in_default
-returns-in_default c = crowded_keeps _ _ c.requires.sound c.in_default.ensures
+pub returns-in_err-settled : goal.returns-in_err-settled
+returns-in_err-settled c = rw c.from_residual.ensures (crowded_keeps _ _ c.requires.sound c.in_err-settled.ensures)
 
 pub returns : goal.returns
-returns c = sorted_grows _ _ c.requires.sound c.in-Some.settled c.in-Some.ensures
+returns c = sorted_grows _ _ c.requires.sound c.in_ok-settled.settled c.in_ok-settled.ensures

@@ -31,24 +31,27 @@ overflow_mul-equal c = record { fits = omega (arith, ready_few c.requires, c.cou
 pub shared_ref_as_front-own : goal.shared_ref_as_front-own
 shared_ref_as_front-own c = omega (arith, c.sent_count.ensures, (own_sound c.requires).0)
 
-pub settle_own-requires : goal.settle_own-requires
-settle_own-requires c =
-    let own = (own_sound c.requires).1 in (
-      starts c.requires _ c.no_numbers.ensures,
-      rw c.sent_count.ensures (record { rises = own.rises; positive = own.positive }),
-      omega (arith, c.count_own-equal.ensures.few, ready_few c.requires),
-    )
+pub settle_own-requires-clause-start : goal.settle_own-requires-clause-start
+settle_own-requires-clause-start c = starts c.requires _ c.no_numbers.ensures
+
+pub settle_own-requires-clause-list : goal.settle_own-requires-clause-list
+settle_own-requires-clause-list c =
+    let own = (own_sound c.requires).1 in
+    rw c.sent_count.ensures (record { rises = own.rises; positive = own.positive })
+
+pub settle_own-requires-clause-few : goal.settle_own-requires-clause-few
+settle_own-requires-clause-few c = omega (arith, c.count_own-equal.ensures.few, ready_few c.requires)
 
 pub returns-in_err-settle_own : goal.returns-in_err-settle_own
 returns-in_err-settle_own c =
     rw c.from_residual.ensures
-    (tallied c.requires _ None c.settle_own.new.settled (λ x. refl)
-    (decides None c.settle_own.new.settled c.requires c.count_own-equal.ensures c.if-h-equal.true c.sent_count.ensures c.in_err-settle_own.ensures))
+    (tallied c.requires _ None c.settle_own.new.self (λ x. refl)
+    (decides None c.settle_own.new.self c.requires c.count_own-equal.ensures c.if-h-equal.true c.sent_count.ensures c.in_err-settle_own.ensures))
 
 pub returns-in_ok-settle_own : goal.returns-in_ok-settle_own
 returns-in_ok-settle_own c =
-    tallied c.requires _ (Some tt) c.settle_own.new.settled (λ x. refl)
-    (decides (Some tt) c.settle_own.new.settled c.requires c.count_own-equal.ensures c.if-h-equal.true c.sent_count.ensures c.in_ok-settle_own.ensures)
+    tallied c.requires _ (Some tt) c.settle_own.new.self (λ x. refl)
+    (decides (Some tt) c.settle_own.new.self c.requires c.count_own-equal.ensures c.if-h-equal.true c.sent_count.ensures c.in_ok-settle_own.ensures)
 
 pub settle_all-requires : goal.settle_all-requires
 settle_all-requires c = starts c.requires _ c.no_numbers.ensures
@@ -56,7 +59,7 @@ settle_all-requires c = starts c.requires _ c.no_numbers.ensures
 pub returns-in_err-settle_all : goal.returns-in_err-settle_all
 returns-in_err-settle_all c =
     rw c.from_residual-in_err-settle_all.ensures
-    (tallied c.requires _ None c.settle_all.new.settled c.open_lists.ensures.counted c.in_err-settle_all.ensures)
+    (tallied c.requires _ None c.settle_all.new.self c.open_lists.ensures.counted c.in_err-settle_all.ensures)
 
 pub returns-in_ok-settle_all : goal.returns-in_ok-settle_all
-returns-in_ok-settle_all c = tallied c.requires _ (Some tt) c.settle_all.new.settled c.open_lists.ensures.counted c.in_ok-settle_all.ensures
+returns-in_ok-settle_all c = tallied c.requires _ (Some tt) c.settle_all.new.self c.open_lists.ensures.counted c.in_ok-settle_all.ensures

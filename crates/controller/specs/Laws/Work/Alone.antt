@@ -44,16 +44,16 @@ module _ (l : ℕ → List ℕ) (m : List ℕ) (h k : ℕ) (pos : 0 < h) (agrees
     λ p. elim p [ inl i ↦ inl i | inr t ↦ inr (two_thirds_lem y ∙ t) ],
   )
 
-  crowd_alike : {P Q : ℕ → Type 0} → ((y : ℕ) → P y ↔ Q y) → Crowd P → Crowd Q
-  crowd_alike alike crowd = (crowd.0, crowd.1, crowd.2, λ y i. (alike y).0 (crowd.3 y i))
+  crowd_alike : {P Q : ℕ → Type 0} → ((y : ℕ) → P y → Q y) → Crowd P → Crowd Q
+  crowd_alike more crowd = (crowd.0, crowd.1, crowd.2, λ y i. more y (crowd.3 y i))
 
   pub agrees_decides : (o : Option Unit) (r : Settled) → Sorts (alone m k) h c o r → Sorts (having l h) h c o r
   agrees_decides (Some u) r g = (
     holds_other g.0 (λ y. (echoed_alike y).0) (λ y. (echoed_alike y).1),
     holds_other g.1 (λ y. (candidates_alike y).0) (λ y. (candidates_alike y).1),
   )
-  agrees_decides None r (inl crowd) = inl (crowd_alike echoed_alike crowd)
-  agrees_decides None r (inr crowd) = inr (crowd_alike candidates_alike crowd)
+  agrees_decides None r (inl crowd) = inl (crowd_alike (λ y. (echoed_alike y).0) crowd)
+  agrees_decides None r (inr crowd) = inr (crowd_alike (λ y. (candidates_alike y).0) crowd)
 
 -- ---- its numbers, one by one
 

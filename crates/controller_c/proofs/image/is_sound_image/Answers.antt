@@ -1,16 +1,19 @@
--- `controller_c::image::is_sound_image` meets its contract: the two tests are those of `sound_image`, in its order.
-use Rattle.std.proofs.Common.{arith}
-use Rattle.controller_c.specs.Image.{sound_image}
-use Rattle.controller_c.specs.Laws.Image.{shaped_length}
+-- `controller_c::image::is_sound_image` meets its contract: the tests are those of `sound_image`, in its order.
+use Rattle.std.proofs.Common.{arith, ap, sym, ne_eqb, eq-eqb, ◌∙◌}
+use Rattle.controller.specs.State.{sound}
+use Rattle.controller_c.specs.Image.{shaped, sound_image}
 use Rattle.controller_c.proofs.image.is_sound_image.Goals as goal
 
-pub take_apart-requires : goal.take_apart-requires
-take_apart-requires c = grind (arith, shaped_length)
+pub returns-in_default : goal.returns-in_default
+unfolding sound_image shaped
+returns-in_default c = rw (ne_eqb _ _ c.in_default.ensures.cases)
 
-pub returns-then-is_shaped : goal.returns-then-is_shaped
-unfolding sound_image
-returns-then-is_shaped c = grind arith
+pub returns-then-reserved_zero : goal.returns-then-reserved_zero
+unfolding sound_image shaped
+returns-then-reserved_zero c =
+    let w = c.in-Some.ensures.cases in
+    rw (eq-eqb _ _ w.long, ← w.same, sym c.if-reserved_zero.ensures) (c.is_sound.ensures ∙ ap sound c.take_apart.ensures)
 
-pub returns-else-is_shaped : goal.returns-else-is_shaped
-unfolding sound_image
-returns-else-is_shaped c = grind arith
+pub returns-else-reserved_zero : goal.returns-else-reserved_zero
+unfolding sound_image shaped
+returns-else-reserved_zero c = grind (arith, c.in-Some.ensures.cases)

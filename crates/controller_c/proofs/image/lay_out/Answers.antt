@@ -4,13 +4,11 @@ use Rattle.std.specs.Prelude.{ℕ, length}
 use Rattle.std.proofs.Math.Path.{◌≡◌, ◌∙◌}
 use Rattle.std.proofs.lemmas.List.Edits.{sets}
 use Rattle.wire.specs.Limits.{max_numbers}
-use Rattle.controller.specs.Laws.State.{sound_rules_lem, since_places}
+use Rattle.controller.specs.Laws.State.{since_places}
 use Rattle.controller.specs.declared.state.State.{State}
-use Rattle.std.specs.Prelude.{true}
-use Rattle.controller.specs.State.{sound}
 use Rattle.controller_c.specs.Image.{image_bytes, heard_at, candidates_at, echoes_at, since_at, reserved_at}
 use Rattle.controller_c.specs.Image.{head_bytes, list_bytes, with_rotation, zeros_from, laid_out}
-use Rattle.controller_c.specs.Laws.Image.{SizedLists, rules_sized, list_bytes_length, laid_out_length}
+use Rattle.controller_c.specs.Laws.Image.{SizedLists, sound_sized, list_bytes_length, laid_out_length}
 use Rattle.controller_c.proofs.Stores.{join_at, sets_whole}
 use Rattle.controller_c.proofs.image.lay_out.Goals as goal
 
@@ -36,17 +34,13 @@ laid s b z since n =
     ∙ join_at b 0 heard_at (head_bytes s) (list_bytes s.heard ++ first) (omega arith)
     ∙ sets_whole b (laid_out s) (laid_out_length s z since ∙ sym n)
 
--- the lists of a sound state have their size
-lists_sized : (s : State) → sound s ≡ true → SizedLists s
-lists_sized s good = rules_sized s (sound_rules_lem s good)
-
-pub put_list-requires : goal.put_list-requires
-put_list-requires c = ((lists_sized _ c.requires.0).heard, search rules)
+pub put_list-requires-clause-sized : goal.put_list-requires-clause-sized
+put_list-requires-clause-sized c = (sound_sized _ c.requires).heard
 
 pub put_rotation-requires : goal.put_rotation-requires
 put_rotation-requires c =
-    let z = lists_sized _ c.requires.0 in
-    (record { candidates = z.candidates; echoes = z.echoes }, search rules)
+    let z = sound_sized _ c.requires in
+    record { candidates = z.candidates; echoes = z.echoes }
 
 pub returns : goal.returns
 returns c =
@@ -57,4 +51,4 @@ returns c =
     let with_rounds = c.put_rounds.ensures ∙ ap (λ (l : List ℕ). sets l since_at s.since) with_lists in
     c.clear_reserved.ensures
     ∙ ap (λ (l : List ℕ). sets l reserved_at (zeros_from reserved_at)) with_rounds
-    ∙ laid s a.image.now (lists_sized s c.requires.0) (since_places s c.requires.0) c.requires.1
+    ∙ laid s a.image.now (sound_sized s c.requires) (since_places s c.requires) (search rules)

@@ -7,14 +7,13 @@ use Rattle.std.proofs.lemmas.List.Edits.{sets}
 use Rattle.wire.specs.Frame.{kind_of}
 use Rattle.wire.specs.Words.{Below}
 use Rattle.controller.specs.Laws.Lists.{true_or_false}
-use Rattle.controller.specs.Laws.State.{sound_rules_lem, since_places}
+use Rattle.controller.specs.Laws.State.{since_places}
 use Rattle.controller.specs.State.{sound}
 use Rattle.controller.specs.declared.state.State.{State}
-use Rattle.controller_c.specs.Image.{sound_image}
-use Rattle.controller_c.specs.Image.{image_bytes, heard_at, candidates_at, echoes_at, since_at, reserved_at, list_width, head_bytes, list_bytes}
+use Rattle.controller_c.specs.Image.{heard_at, candidates_at, echoes_at, since_at, reserved_at, list_width, head_bytes, list_bytes}
 use Rattle.controller_c.specs.Image.{zeros_from, laid_out}
 use Rattle.controller_c.specs.Image.{taken_apart, renewed_heard, renewed_rotation}
-use Rattle.controller_c.specs.Laws.Image.{SizedLists, rules_sized, list_bytes_length, sound_image_gives, laid_out-taken_apart}
+use Rattle.controller_c.specs.Laws.Image.{sound_sized, list_bytes_length, sound_image_gives, laid_out-taken_apart}
 use Rattle.controller_c.proofs.Stores.{sets_behind, sets_over}
 use Rattle.controller_c.proofs.image.lay_over.Goals as goal
 
@@ -46,9 +45,6 @@ module _ (h l c e w : List ℕ) (a : length h ≡ heard_at) (b : length l ≡ li
 
 -- ---- from the image of the state before to that of the state made
 
-sizes : (s : State) → sound s ≡ true → SizedLists s
-sizes s h = rules_sized s (sound_rules_lem s h)
-
 module _ (s t : State) (h : sound s ≡ true) (g : sound t ≡ true) where
   head_renewed : sets (laid_out s) 0 (head_bytes t)
       ≡ joined (head_bytes t) (list_bytes s.heard) (list_bytes s.candidates) (list_bytes s.echoes) s.since
@@ -59,21 +55,21 @@ module _ (s t : State) (h : sound s ≡ true) (g : sound t ≡ true) where
       → renewed_heard k t (joined (head_bytes t) (list_bytes s.heard) (list_bytes s.candidates) (list_bytes s.echoes) s.since)
       ≡ joined (head_bytes t) (list_bytes t.heard) (list_bytes s.candidates) (list_bytes s.echoes) t.since
   heard_renewed k kept =
-      let z = sizes s h in
+      let z = sound_sized s h in
       elim (true_or_false (eqb t.heard.len k)) [
         | inl q ↦ let same = kept (eqb-true _ _ q) in rw (q, same.0, same.1)
         | inr q ↦ rw q
             (heard_over (head_bytes t) (list_bytes s.heard) (list_bytes s.candidates) (list_bytes s.echoes) s.since refl
             (list_bytes_length s.heard z.heard) (list_bytes_length s.candidates z.candidates) (list_bytes_length s.echoes z.echoes)
-            (list_bytes t.heard) t.since (list_bytes_length t.heard (sizes t g).heard) (since_places t g ∙ sym (since_places s h)))
+            (list_bytes t.heard) t.since (list_bytes_length t.heard (sound_sized t g).heard) (since_places t g ∙ sym (since_places s h)))
       ]
 
   rotation_renewed : (3 < kind_of t.round → (s.candidates ≡ t.candidates) × (s.echoes ≡ t.echoes))
       → renewed_rotation t (joined (head_bytes t) (list_bytes t.heard) (list_bytes s.candidates) (list_bytes s.echoes) t.since) ≡ laid_out t
   unfolding laid_out
   rotation_renewed kept =
-      let z = sizes s h in
-      let y = sizes t g in
+      let z = sound_sized s h in
+      let y = sound_sized t g in
       elim (true_or_false (leb (kind_of t.round) 3)) [
         | inl q ↦ rw q
             (rotation_over (head_bytes t) (list_bytes t.heard) (list_bytes s.candidates) (list_bytes s.echoes) t.since refl
@@ -83,24 +79,13 @@ module _ (s t : State) (h : sound s ≡ true) (g : sound t ≡ true) where
         | inr q ↦ let same = kept (leb-false _ _ q) in rw (q, same.0, same.1)
       ]
 
--- a sound image is as long as an image
-whole : (b : List ℕ) → sound_image b ≡ true → length b ≡ image_bytes
-whole b h = (sound_image_gives b h).whole
-
-pub put_head-requires : goal.put_head-requires
-put_head-requires c = omega (arith, whole _ c.requires.image)
-
 pub renew_heard-requires : goal.renew_heard-requires
-renew_heard-requires c =
-    let made = c.requires.made in
-    ((sizes _ made).heard, since_places _ made, omega (arith, whole _ c.requires.image, c.put_head.auto.image))
+renew_heard-requires c = (sound_sized _ c.requires.made).heard
 
 pub renew_rotation-requires : goal.renew_rotation-requires
 renew_rotation-requires c =
-    let z = sizes _ c.requires.made in (
-      record { candidates = z.candidates; echoes = z.echoes },
-      omega (arith, whole _ c.requires.image, c.put_head.auto.image, c.renew_heard.auto.image),
-    )
+    let z = sound_sized _ c.requires.made in
+    record { candidates = z.candidates; echoes = z.echoes }
 
 pub returns : goal.returns
 returns c =

@@ -1,6 +1,6 @@
 -- `controller_c::image::put_places` meets its contract: what is left to store, stored behind what was stored, gives the whole run of stores.
 use Rattle.std.proofs.Math.Path.{◌≡◌, ◌∙◌}
-use Rattle.std.specs.Prelude.{refl, length, drop}
+use Rattle.std.specs.Prelude.{length, drop}
 use Rattle.std.proofs.Common.{add-zero, add-one, arith, rules, drop-cons, ℕ, ◌+◌, ◌*◌, ◌<◌, List, ◌∷◌}
 use Rattle.std.proofs.Math.ListN.{get_or, drop_of_length-le}
 use Rattle.std.proofs.lemmas.List.Edits.{sets}

@@ -1,7 +1,7 @@
 -- `controller_c::image::put_places` meets its contract: what is left to store, stored behind what was stored, gives the whole run of stores.
 use Rattle.std.proofs.Common.{◌+◌, ◌*◌}
 use Rattle.std.proofs.Math.Path.{◌≡◌}
-use Rattle.std.specs.Prelude.{length, drop}
+use Rattle.std.specs.Prelude.{drop}
 use Rattle.std.proofs.lemmas.List.Edits.{sets}
 use Rattle.wire.specs.Limits.{number_width}
 use Rattle.controller_c.specs.Words.{numbers_bytes}

@@ -2,12 +2,12 @@
 use Rattle.std.proofs.Math.Bool.{◌&&◌, and_assoc, and-true}
 use Rattle.std.proofs.Math.Path.{◌≡◌, ◌∙◌}
 use Rattle.std.specs.Prelude.{eqb, length, drop}
-use Rattle.std.proofs.Common.{sym, ap, add-one, arith, drop-cons, ℕ, ◌+◌, ◌≤◌, ◌<◌, List, ◌∷◌}
+use Rattle.std.proofs.Common.{sym, ap, add-one, arith, drop-cons, length-drop, ℕ, ◌+◌, ◌-◌, ◌≤◌, ◌<◌, List, ◌∷◌}
 use Rattle.std.specs.Int.Bits.{bit_or}
 use Rattle.std.proofs.Math.ListN.{get_or, drop_of_length-le}
-use Rattle.std.proofs.lemmas.Slice.{between_to_end}
+use Rattle.std.proofs.Math.Seq.{take_all}
 use Rattle.wire.specs.Laws.Bits.{or_zero}
-use Rattle.controller_c.specs.Image.{reserved_at, zeros}
+use Rattle.controller_c.specs.Image.{image_bytes, reserved_at, zeros}
 use Rattle.controller_c.proofs.image.reserved_zero.Goals as goal
 
 module _ (b : List ℕ) (i all : ℕ) where
@@ -24,7 +24,8 @@ loop-byte-preserved c = turn _ c.loop-byte.byte-index c.loop-byte.all c.loop-byt
 
 pub returns : goal.returns
 returns c =
-    let image = c.args.image.now in
+    let rest = drop reserved_at c.args.image.now in
+    let all : length rest ≤ image_bytes - reserved_at = omega (arith, length-drop reserved_at c.args.image.now) in
     sym (done _ c.loop-byte.byte-index c.loop-byte.all c.loop-byte-test.false)
     ∙ c.loop-byte.invariant
-    ∙ ap zeros (between_to_end image reserved_at (length image) (omega arith))
+    ∙ ap zeros (take_all (image_bytes - reserved_at) rest all)

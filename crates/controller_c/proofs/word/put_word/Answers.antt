@@ -1,4 +1,4 @@
--- `controller_c::word::put_word` meets its contract: the number's bytes, lowest first, are those of `number_bytes`, and their copy is four stores.
+-- `controller_c::word::put_word` meets its contract: the number's bytes are those of `number_bytes`, and their copy into the slice is four stores.
 use Rattle.std.proofs.Common.{arith}
 use Rattle.std.proofs.lemmas.Grind.{common_steps}
 use Rattle.std.proofs.lemmas.List.Edits.{sets-eq}

@@ -6,4 +6,4 @@ use Rattle.wire.specs.Words.{half_bytes}
 use Rattle.wire.proofs.word.put_half.Goals as goal
 
 pub returns : goal.returns
-returns c = grind (arith, common_steps, sets-eq (half_bytes c.args.x) c.args.s.now c.args.at c.requires.0)
+returns c = grind (arith, common_steps, sets-eq (half_bytes c.args.x) c.args.s.now c.args.at c.requires.room)

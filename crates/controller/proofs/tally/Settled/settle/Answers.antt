@@ -1,4 +1,5 @@
--- `crate::tally::settle` meets its contract: not at a third, or a candidate, the number changes nothing; else it is put in at its place, or is one too many.
+-- `crate::tally::Settled::settle` meets its contract: not at a third, or a candidate, the number changes nothing; else it is put in at its place, or is one
+-- too many.
 use Rattle.std.specs.Prelude.{ℕ, ◌*◌, ◌≤◌, ◌<◌}
 use Rattle.std.proofs.Common.{sym, arith}
 use Rattle.wire.specs.Numbers.{listed}
@@ -8,7 +9,7 @@ use Rattle.controller.specs.Laws.Work.Lists.{below_length}
 use Rattle.controller.specs.Laws.Work.Settle.{settles_few, settles_known, settles_crowds_echoes, settles_echoes, settles_crowds_candidates, settles_joins}
 use Rattle.controller.specs.Work.Tally.{Settleable}
 use Rattle.controller.specs.declared.tally.Settled.{Settled}
-use Rattle.controller.proofs.tally.settle.Goals as goal
+use Rattle.controller.proofs.tally.Settled.settle.Goals as goal
 
 -- a number that is in a third of the lists is in one
 positive : {s : Settled} {x count h : ℕ} → Settleable s x count h → h ≤ 3 * count → 0 < x
@@ -30,19 +31,19 @@ returns-then-count-h-2 c v cs e was =
     settles_echoes was (omega (arith, c.if-count-h.false)) (mem_out _ (sym c.if-has_at.ensures)) (positive c.requires c.if-count-h.false)
     (omega (arith, c.if-count-h-2.true)) c.if-echoed-ge-MAX_NUMBERS.false c.place_from-place.ensures c.insert_at.ensures
 
-pub returns-then-settled-ge-MAX_NUMBERS : goal.returns-then-settled-ge-MAX_NUMBERS
-returns-then-settled-ge-MAX_NUMBERS c v cs e was =
+pub returns-then-self-ge-MAX_NUMBERS : goal.returns-then-self-ge-MAX_NUMBERS
+returns-then-self-ge-MAX_NUMBERS c v cs e was =
     settles_crowds_candidates was (omega (arith, c.if-count-h.false)) (mem_out _ (sym c.if-has_at.ensures)) (positive c.requires c.if-count-h.false)
-    (omega (arith, c.if-count-h-2.false)) c.if-settled-ge-MAX_NUMBERS.true
+    (omega (arith, c.if-count-h-2.false)) c.if-self-ge-MAX_NUMBERS.true
 
-pub insert_at-requires-2 : goal.insert_at-requires-2
-insert_at-requires-2 c =
-    let list = c.args.settled.now.candidates in
+pub insert_at-requires-2-clause-inside : goal.insert_at-requires-2-clause-inside
+insert_at-requires-2-clause-inside c =
+    let list = c.args.self.now.candidates in
     let used = (sound_list_gives list c.requires.candidates).used in
-    (c.requires.candidates, omega (arith, c.place_from-place.ensures, used, below_length c.args.x (listed list)), c.if-settled-ge-MAX_NUMBERS.false)
+    omega (arith, c.place_from-place.ensures, used, below_length c.args.x (listed list))
 
 pub returns : goal.returns
 returns c v cs e was =
     settles_joins was (omega (arith, c.if-count-h.false)) (mem_out _ (sym c.if-has_at.ensures)) (positive c.requires c.if-count-h.false)
-    (omega (arith, c.if-count-h-2.false)) c.if-echoed-ge-MAX_NUMBERS.false c.if-settled-ge-MAX_NUMBERS.false
+    (omega (arith, c.if-count-h-2.false)) c.if-echoed-ge-MAX_NUMBERS.false c.if-self-ge-MAX_NUMBERS.false
     c.place_from-place.ensures c.insert_at.ensures c.insert_at-2.ensures

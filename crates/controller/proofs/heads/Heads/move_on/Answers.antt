@@ -1,11 +1,11 @@
--- `crate::heads::move_on` meets its contract: what is written beside a list's head is written to the columns of keys and of places.
+-- `crate::heads::Heads::move_on` meets its contract: what is written beside a list's head is written to the columns of keys and of places.
 use Rattle.std.proofs.Common.{List, ℕ, sym, refl, ◌+◌, ◌≡◌, get_or, set}
 use Rattle.std.proofs.Math.ListN.{get_or-map}
 use Rattle.std.proofs.lemmas.List.{map-set}
 use Rattle.controller.specs.Work.Heads.{key_of, keys_of, places_of, Moves}
 use Rattle.controller.specs.Work.OpenList.{end_mark}
 use Rattle.controller.specs.declared.heads.Ahead.{Ahead}
-use Rattle.controller.proofs.heads.move_on.Goals as goal
+use Rattle.controller.proofs.heads.Heads.move_on.Goals as goal
 
 abbrev nothing : Ahead
 nothing = record { key = 0; at = 0 }

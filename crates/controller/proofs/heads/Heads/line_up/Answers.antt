@@ -1,4 +1,4 @@
--- `crate::heads::line_up` meets its contract: the lists gone through stand at their first numbers, and `build` leaves the leaves as they are.
+-- `crate::heads::Heads::line_up` meets its contract: the lists gone through stand at their first numbers, and `build` leaves the leaves as they are.
 use Rattle.std.proofs.Common.{ℕ, ◌+◌, ◌<◌, ◌≡◌, set, get_or, arith}
 use Rattle.std.proofs.lemmas.List.{map-set}
 use Rattle.controller.specs.Work.OpenList.{end_mark}
@@ -8,8 +8,8 @@ use Rattle.controller.specs.Laws.Work.Heads.{stands_first, room_set, heads_set}
 use Rattle.controller.specs.declared.heads.Ahead.{Ahead}
 use Rattle.controller.specs.declared.heads.Heads.{Heads}
 use Rattle.controller.specs.declared.open_list.OpenLists.{OpenLists}
-use Rattle.controller.proofs.heads.line_up.Invariants.{Lining}
-use Rattle.controller.proofs.heads.line_up.Goals as goal
+use Rattle.controller.proofs.heads.Heads.line_up.Invariants.{Lining}
+use Rattle.controller.proofs.heads.Heads.line_up.Goals as goal
 
 lines : {o : OpenLists} {h : Heads} {j : ℕ} (key next : ℕ) → Lining o h j → j < o.len
     → key ≡ key_of j (get_or (nth_open o j) 0 end_mark) → next ≡ key_of j (get_or (nth_open o j) 1 end_mark)

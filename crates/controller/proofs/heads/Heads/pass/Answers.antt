@@ -1,4 +1,4 @@
--- `crate::heads::pass` meets its contract: the laws say what moving a list on and making a node anew keep, and that no head is left below the next key.
+-- `crate::heads::Heads::pass` meets its contract: the laws say what moving a list on and making a node anew keep, and that no head is left below the next key.
 use Rattle.std.proofs.Common.{ℕ, ◌%◌, ◌/◌, get_or, refl, arith}
 use Rattle.controller.specs.Laws.Work.Heads.{Waits, passing_start, passing_place, passing_fits, moved_fewer, first_waits, climbing_starts}
 use Rattle.controller.specs.Laws.Work.Heads.{beside_waits, climbing_jumps, climbing_climbs, climbing_ends}
@@ -6,15 +6,15 @@ use Rattle.controller.specs.Laws.Work.Opened.{sent_at}
 use Rattle.controller.specs.Work.Heads.{slots, Passable}
 use Rattle.controller.specs.declared.heads.Heads.{Heads}
 use Rattle.controller.specs.declared.open_list.OpenLists.{OpenLists}
-use Rattle.controller.proofs.heads.pass.Goals.{Then-other-limit}
-use Rattle.controller.proofs.heads.pass.Goals as goal
+use Rattle.controller.proofs.heads.Heads.pass.Goals.{Then-other-limit}
+use Rattle.controller.proofs.heads.Heads.pass.Goals as goal
 
 -- the list of node 1 waits, and so does that of a sibling with the number
 start_waits : {o : OpenLists} {first : ℕ} {h : Heads} → Passable o first h → Waits h.tree o.len (first / slots) (first % slots)
 start_waits {o} g = first_waits o.opens g.some g.room g.standing g.ordered g.least refl
 
 turn_waits : (c : Then-other-limit)
-    → Waits c.loop-i.heads.tree c.args.opened.now.len (c.args.first / slots) (get_or c.loop-i.heads.tree c.sibling.result 0 % slots)
+    → Waits c.loop-i.self.tree c.args.opened.now.len (c.args.first / slots) (get_or c.loop-i.self.tree c.sibling.result 0 % slots)
 turn_waits c = beside_waits c.args.opened.now.opens c.requires.some c.loop-i.invariant c.loop-i-test.true c.sibling.ensures c.if-other-limit.true
 
 pub bounds-opened-j : goal.bounds-opened-j
@@ -42,14 +42,14 @@ bounds-opened-j-then-other-limit c =
 pub overflow_add-count : goal.overflow_add-count
 overflow_add-count c =
     let h = turn_waits (goal.at.overflow_add-count c).Then-other-limit in
-    let j = get_or c.loop-i.heads.tree c.sibling.result 0 % slots in
+    let j = get_or c.loop-i.self.tree c.sibling.result 0 % slots in
     omega (arith, passing_fits c.args.opened.now.opens c.requires.some c.loop-i.invariant.passing j h, sent_at c.args.opened.now.lists j)
 
 pub move_on-key-requires-then-other-limit : goal.move_on-key-requires-then-other-limit
 move_on-key-requires-then-other-limit c =
     let o = c.args.opened.now.opens in
     let g = c.loop-i.invariant.passing in
-    let j = get_or c.loop-i.heads.tree c.sibling.result 0 % slots in
+    let j = get_or c.loop-i.self.tree c.sibling.result 0 % slots in
     let h = (turn_waits (goal.at.move_on-key-requires-then-other-limit c).Then-other-limit).0 in
     (h, g.room, passing_place o c.requires.some g j h)
 
@@ -62,7 +62,7 @@ loop-i-smaller-then-other-limit c =
 
 pub loop-i-preserved-then-other-limit : goal.loop-i-preserved-then-other-limit
 loop-i-preserved-then-other-limit c =
-    rw (← sent_at c.args.opened.now.lists (get_or c.loop-i.heads.tree c.sibling.result 0 % slots))
+    rw (← sent_at c.args.opened.now.lists (get_or c.loop-i.self.tree c.sibling.result 0 % slots))
     (climbing_jumps c.args.opened.now.opens c.requires.some c.loop-i.invariant c.loop-i-test.true c.sibling.ensures
     c.if-other-limit.true c.move_on-key-then-other-limit.ensures)
 

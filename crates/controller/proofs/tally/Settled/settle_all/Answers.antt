@@ -1,4 +1,4 @@
--- `crate::tally::settle_all` meets its contract: each turn settles the least number left, so that all are settled when the lists have ended.
+-- `crate::tally::Settled::settle_all` meets its contract: each turn settles the least number left, so that all are settled when the lists have ended.
 use Rattle.std.specs.Prelude.{ℕ, ◌+◌, ◌/◌, ◌≤◌, get_or}
 use Rattle.std.proofs.Common.{sym, arith}
 use Rattle.wire.specs.Numbers.{listed}
@@ -11,7 +11,7 @@ use Rattle.controller.specs.declared.heads.Heads.{Heads}
 use Rattle.controller.specs.declared.heads.Passed.{Passed}
 use Rattle.controller.specs.declared.open_list.OpenLists.{OpenLists}
 use Rattle.controller.specs.declared.tally.Settled.{Settled}
-use Rattle.controller.proofs.tally.settle_all.Goals as goal
+use Rattle.controller.proofs.tally.Settled.settle_all.Goals as goal
 
 -- the turn of the first key f
 module _ {o : OpenLists} {h : ℕ} {start : Settled} (pre : Startable start h) {g : Heads} {q : Settled} {f : ℕ}
@@ -36,7 +36,7 @@ module _ {o : OpenLists} {h : ℕ} {start : Settled} (pre : Startable start h) {
 
 pub loop-key-init : goal.loop-key-init
 loop-key-init c =
-    let lined = c.line_up-heads.ensures in
+    let lined = c.line_up.ensures in
     walking_on _ _ _ c.requires.some 0 _ _ lined.room lined.ordered lined.standing (settles_none _ c.requires) (omega arith)
 
 pub settle-requires : goal.settle-requires
