@@ -68,8 +68,8 @@ fn make_value(state: &mut State, noted: &NotedTray) -> Option<()>
     Some(())
 }
 
-// The step, by the kind of the frame that is made: the rules fix the four, and no caller brings one, so that it is a `match`. `None` where the lists do not fit;
-// the state then stays as it is.
+// The step, by the kind of the frame that is made: the rules fix the four, and no caller brings one, so that it is a `match`. `None` where the lists do not
+// fit; the state then stays as it is.
 pub(crate) fn step(state: &mut State, noted: &NotedTray) -> Option<()>
     requires ready { Ready state.old noted.now.tray.now noted.now.notes }
     requires early { state.old.round < last_round }
