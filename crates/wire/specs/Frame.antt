@@ -9,7 +9,8 @@
 --     count_of s                how many numbers the bytes s list; 0 where they have no header
 --     void_number e             the papers' number of each cause by which bytes are void
 --     number_checked r, number_read r, frame_read r    that of each answer of the reader, 0 for none; and its frame, if it has one
---     number_written r, length_written r    the papers' number of each answer of the writer, 0 for none; and how many bytes it wrote
+--     unwritten_number e        the papers' number of each cause by which a frame is not written
+--     number_written r, length_written r    that of each answer of the writer, 0 for none; and how many bytes it wrote
 --     frame_in o                the frame of a content, without its list; bit_in o, the bit that a content says; 3 for none
 --     write_refusal c n         0, or the refusal for content c and an output buffer of n bytes: 10, then 3
 --     frame_bytes c             the bytes of content c
@@ -178,11 +179,14 @@ header_bytes round kind bit count = word_bytes round ++ (kind ∷ bit ∷ half_b
 unfoldable pub frame_bytes : Content → List ℕ
 frame_bytes c = header_bytes c.round (kind_said c.said) (bit_said c.said) (length c.numbers) ++ words_bytes c.numbers
 
--- the papers' number of each cause of the writer, 0 where there is none
+abbrev pub unwritten_number : Unwritten → ℕ
+unwritten_number NoRoom = 3
+unwritten_number NoFrame = 10
+
+-- the number that an answer stands for, 0 where there is no cause
 abbrev pub number_written : Result ℕ Unwritten → ℕ
 number_written (Ok n) = 0
-number_written (Err NoRoom) = 3
-number_written (Err NoFrame) = 10
+number_written (Err e) = unwritten_number e
 
 -- how many bytes are written
 abbrev pub length_written : Result ℕ Unwritten → ℕ

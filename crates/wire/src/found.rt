@@ -29,11 +29,21 @@ pub fn found_by(note: u32) -> Found
     }
 }
 
-// Whether two parts have the same bytes.
+// Whether two parts have the same bytes. It goes from the end to the front, in blocks: lists that differ mostly differ in their last numbers.
 pub fn same_bytes(a: &[u8], b: &[u8]) -> bool
     ensures { result ≡ same_bytes a.now b.now }
 {
-    a == b
+    if a.len() != b.len() {
+        return false;
+    }
+    let (a_front, a_blocks) = a.as_rchunks::<64>();
+    let (b_front, b_blocks) = b.as_rchunks::<64>();
+    for i in (0..a_blocks.len()).rev() {
+        if a_blocks[i] != b_blocks[i] {
+            return false;
+        }
+    }
+    a_front == b_front
 }
 
 // Whether two notes are of one frame each, which lie in the tray and have the same bytes.

@@ -2,7 +2,7 @@
 // specs/Frame.antt says what each call answers. src/read.rt reads a frame, src/write.rt writes one.
 ghost use Rattle.std.specs.Prelude.{◌≡◌, Some};
 ghost use Rattle.wire.specs.Numbers.{rising};
-ghost use Rattle.wire.specs.Frame.{kind_of, chosen_by, said_by, bit_fits, max_count, round_fits, bit_chosen, kind_said, bit_said};
+ghost use Rattle.wire.specs.Frame.{kind_of, chosen_by, said_by, bit_fits, max_count, round_fits, bit_chosen, kind_said, bit_said, unwritten_number};
 ghost use Rattle.wire.specs.Texts.{void_text, unwritten_text};
 
 use crate::limits::{INIT, LAST_ROUND, MAX_NUMBERS, NO_BIT, PROPOSE, ROSTER, TURN, VALUE};
@@ -65,6 +65,15 @@ pub enum Unwritten {
     NoRoom = 3,
     // What is given is no frame.
     NoFrame = 10,
+}
+
+impl Unwritten {
+    // Its number among the refusals.
+    pub fn number(self) -> u8
+        ensures { result ≡ unwritten_number self }
+    {
+        self as u8
+    }
 }
 
 impl fmt::Display for Unwritten {

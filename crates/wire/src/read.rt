@@ -59,18 +59,33 @@ pub fn read_head(bytes: &[u8], at: usize) -> u64
     }
 }
 
-// Whether numbers of four bytes each rise strictly from above 0. The loop has no way out, as that of `rise`.
-fn numbers_rise(numbers: &[[u8; NUMBER_WIDTH]]) -> bool
-    ensures { result ≡ rising 0 (map (from_be_bytes w32) numbers.now) }
+// Whether the numbers of a group, of four bytes each, rise strictly from above the one in front of it. The loop has no way out, as that of `rise`.
+fn group_rises(before: u32, group: &[[u8; NUMBER_WIDTH]]) -> bool
+    ensures { result ≡ rising before (map (from_be_bytes w32) group.now) }
 {
     let mut ok = true;
-    let mut last = 0;
-    for number in numbers {
+    let mut last = before;
+    for number in group {
         let number = u32::from_be_bytes(*number);
         ok &= last < number;
         last = number;
     }
     ok
+}
+
+// Whether numbers of four bytes each rise strictly from above 0. Four at a time: a good list is tested fast, and one with a fault is left at its group.
+fn numbers_rise(numbers: &[[u8; NUMBER_WIDTH]]) -> bool
+    ensures { result ≡ rising 0 (map (from_be_bytes w32) numbers.now) }
+{
+    let (groups, rest) = numbers.as_chunks::<4>();
+    let mut last = 0;
+    for group in groups {
+        if !group_rises(last, group) {
+            return false;
+        }
+        last = u32::from_be_bytes(group[3]);
+    }
+    group_rises(last, rest)
 }
 
 fn length_fits(bytes: &[u8]) -> bool

@@ -1,11 +1,10 @@
--- `wire::read::numbers_rise` meets its contract: the numbers passed rose and what is left rises from above the last of them exactly if the whole list rises.
-use Rattle.std.proofs.Math.Bool.{◌&&◌}
+-- `wire::read::numbers_rise` meets its contract: what is left rises from above the last number passed exactly if the whole list rises.
 use Rattle.std.proofs.Math.Path.{◌≡◌}
 use Rattle.std.specs.Int.{w32, from_be_bytes}
-use Rattle.std.specs.Prelude.{drop, map}
+use Rattle.std.specs.Prelude.{◌*◌, drop, map}
 use Rattle.wire.specs.Numbers.{rising}
 use Rattle.wire.proofs.read.numbers_rise.Given as goal
 
-abbrev pub invariant-loop-number : goal.invariant-loop-number
-invariant-loop-number l =
-    (l.ok && rising l.last (map (from_be_bytes w32) (drop l.number-index l.numbers))) ≡ rising 0 (map (from_be_bytes w32) l.numbers)
+abbrev pub invariant-loop-group : goal.invariant-loop-group
+invariant-loop-group l =
+    rising l.last (map (from_be_bytes w32) (drop (l.group-index * 4) l.numbers)) ≡ rising 0 (map (from_be_bytes w32) l.numbers)
