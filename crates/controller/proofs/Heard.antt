@@ -10,7 +10,7 @@ use Rattle.wire.specs.Notes.{found_by}
 use Rattle.wire.specs.Limits.{max_numbers}
 use Rattle.wire.specs.Laws.Numbers.{listed_stored}
 use Rattle.wire.specs.Numbers.{stored, listed}
-use Rattle.wire.specs.Tray.{Entry, entries, well_formed}
+use Rattle.wire.specs.Tray.{Entry, entries}
 use Rattle.wire.specs.declared.frame.Numbers.{Numbers}
 use Rattle.controller.specs.Laws.Received.{heard_in_lem}
 use Rattle.controller.specs.Laws.Refusals.{senders_fit_lem}
@@ -70,7 +70,7 @@ module _ (s : State) (es : List Entry) (n : Numbers) (h : sound_rules s ≡ true
       ap sound_rules more_image ∙ rules_test _ s.since all
 
 -- what `hear` answers, in the rules' words
-module _ {s : State} {b : List ℕ} {n : ℕ} (k : Checked s b n) (packed : well_formed b ≡ true) {r : Bool} {all : Numbers} {f : List ℕ}
+module _ {s : State} {b : List ℕ} {n : ℕ} (k : Checked s b n) {r : Bool} {all : Numbers} {f : List ℕ}
     (heard : Hears s.own b (listed s.heard) r all f) where
   pub hearing_fits : r ≡ (senders_fit (view s) (entries b) && heard_fit (view s) (entries b))
   unfolding receive
@@ -97,7 +97,7 @@ module _ {s : State} {b : List ℕ} {n : ℕ} (k : Checked s b n) (packed : well
     pub hearing_ready : Ready (heard_state s all) b f
     unfolding receive
     hearing_ready =
-        ready_found (heard_state s all) b f hearing_sound k.active packed
+        ready_found (heard_state s all) b f hearing_sound k.active k.packed
         (λ x i. subst (In x) same ((heard_in_lem (view s) (entries b)).1 (inl i)))
         (senders_fit_lem (view s) (entries b) sent).1
         (subst (λ (l : List ℕ). (j : ℕ) → j < length l → found_by (get_or f j 0) ≡ found b (get_or l j 0)) same (heard.notes fit))
@@ -117,7 +117,7 @@ module _ {s : State} {b : List ℕ} {n : ℕ} (k : Checked s b n) (packed : well
         ∙ moved_recorded s (entries b) k.sound
 
     pub hearing_passed : tray_refusal s b n ≡ cond (lists_fit (view s) (entries b)) 0 8
-    hearing_passed = tests_left k packed ∙ rw (sent, fits)
+    hearing_passed = tests_left k ∙ rw (sent, fits)
 
     -- the step that it takes is the tray's: of the state t that this makes, m saying whether its lists fit
     module _ {m : Bool} {t : State} (makes : Makes (heard_state s all) b m t) where

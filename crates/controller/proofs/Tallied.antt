@@ -1,10 +1,9 @@
 -- What the two ways of the tally share: they start from no echoes and the candidates that were, for those heard, and what is sorted by counts of the lists
 -- under the notes is sorted by those of the received ones.
 use Rattle.std.specs.Prelude.{ℕ, ◌<◌, List, [], ◌≡◌, length, Option}
-use Rattle.std.proofs.Common.{refl, ◌∙◌, arith}
+use Rattle.std.proofs.Common.{◌∙◌, arith}
 use Rattle.wire.specs.Numbers.{stored, listed}
 use Rattle.wire.specs.Tray.{entries}
-use Rattle.wire.specs.declared.frame.Numbers.{Numbers}
 use Rattle.controller.specs.Laws.Received.{heard_some}
 use Rattle.controller.specs.Laws.State.{rules_candidates, rules_give}
 use Rattle.controller.specs.Laws.Work.Opened.{under_tally}
@@ -22,9 +21,9 @@ module _ {s : State} {b t : List ℕ} (ready : Ready s b t) where
   pub somebody : 0 < s.heard.len
   somebody = omega (arith, ready_size ready, heard_some (view s) (entries b) (rules_give s ready.sound))
 
-  pub starts : (n : Numbers) → n ≡ stored [] → Startable (record { echoed = n; candidates = s.candidates; place = 0 }) s.heard.len
-  starts n empty =
-      record { most = ready_few ready; some = somebody; empty = empty; candidates = rules_candidates s ready.sound; place = refl }
+  pub starts : {r : Settled} → r.echoed ≡ stored [] → r.candidates ≡ s.candidates → r.place ≡ 0 → Startable r s.heard.len
+  starts empty same place =
+      record { most = ready_few ready; some = somebody; empty = empty; candidates = rw same (rules_candidates s ready.sound); place = place }
 
   pub tallied : (v : ℕ → ℕ) (o : Option Unit) (r : Settled) → ((x : ℕ) → v x ≡ having (noted_list s b t) s.heard.len x)
       → Sorts v s.heard.len (listed s.candidates) o r

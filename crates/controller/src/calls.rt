@@ -8,10 +8,11 @@ ghost use Rattle.controller.specs.Work.Calls.{early_refusal, Checked, SendsState
 use crate::first::take_over;
 use crate::lists::no_numbers;
 use crate::packed::PackedTray;
-use crate::received::{hear, senders_fit, sent_count};
+use crate::received::{NotedTray, hear, senders_fit, sent_count};
 use crate::sound::is_sound;
 use crate::state::{Answer, Refusal, State};
 use crate::step::step;
+use wire::found::NO_FRAME;
 use wire::limits::{LAST_ROUND, MAX_FRAME, MAX_NUMBERS, NO_BIT};
 use wire::tray::{tray_round, well_formed};
 use wire::write::lay_frame;
@@ -120,14 +121,18 @@ fn work_checked(state: &mut State, tray: PackedTray, out: &mut [u8]) -> Result<u
 {
     let heard = state.heard;
     let round = state.round as u8;
-    let Some(noted) = hear(tray, state.own, &mut state.heard) else {
+    let mut noted = NotedTray {
+        tray: tray.bytes,
+        notes: [NO_FRAME; MAX_NUMBERS],
+    };
+    if hear(tray, state.own, &mut state.heard, &mut noted.notes).is_none() {
         state.heard = heard;
         return Err(if senders_fit(tray.bytes, state.own) {
             Refusal::TooManyHeard
         } else {
             Refusal::BadSender
         });
-    };
+    }
     if step(state, &noted).is_none() {
         state.heard = heard;
         return Err(Refusal::TooManyListed);

@@ -54,10 +54,11 @@ fn build(tree: &mut [usize], len: usize)
 impl Heads {
     ghost use Rattle.controller.specs.Work.Heads.{LinesUp, Movable, MovesIn, Passable, PassesIn};
 
-    // Room for the heads. It is lent to `line_up`, since a value that is returned would stand on the stack twice.
+    // Room for the heads. It is lent to `line_up`, since a value that is returned would stand on the stack twice. Place 1 is behind each head, as when the
+    // lists are lined up: where all is 0 it is one fill, which is slow above 2,048 bytes.
     pub(crate) const NONE: Heads = Heads {
         tree: [0; 2 * MAX_LISTS],
-        ahead: [Ahead { key: 0, at: 0 }; MAX_LISTS],
+        ahead: [Ahead { key: 0, at: 1 }; MAX_LISTS],
     };
 
     // Moves list `j` on: the key behind its head becomes its leaf, and is returned; the one behind that is read.

@@ -5,13 +5,13 @@ ghost use Rattle.wire.specs.Frame.{content};
 ghost use Rattle.wire.specs.Limits.{max_numbers};
 ghost use Rattle.wire.specs.Words.{words_at};
 ghost use Rattle.controller.specs.Received.{read_in, list_in};
-ghost use Rattle.controller.specs.Work.Received.{noted, Ready};
+ghost use Rattle.controller.specs.Work.Received.{noted, Ready, sent_count};
 ghost use Rattle.controller.specs.Work.OpenList.{NumbersIn, start_limit};
 ghost use Rattle.controller.specs.Work.Opened.{SpanOf, OpensOwn, OpensAll};
 ghost use Rattle.controller.specs.Work.Tally.{OneList};
 
 use crate::open_list::{MAX_LISTS, NO_LIST, OpenList, OpenLists};
-use crate::received::{NotedTray, sent_count};
+use crate::received::NotedTray;
 use crate::state::State;
 use wire::found::{Found, NO_FRAME, found_by, same_frames};
 use wire::limits::{FRAME_HEADER, NUMBER_WIDTH};
@@ -104,7 +104,7 @@ impl OpenLists<'_> {
 }
 
 // The own list, of so many numbers, with nobody counted for it.
-fn own_alone<'a>(own: &'a [u32], tray: &'a [u8], count: usize) -> OpenLists<'a>
+pub(crate) fn own_alone<'a>(own: &'a [u32], tray: &'a [u8], count: usize) -> OpenLists<'a>
     requires few { count ≤ max_numbers }
     requires inside { count ≤ length own.now }
     requires list { OneList (take count own.now) }
@@ -120,13 +120,14 @@ fn own_alone<'a>(own: &'a [u32], tray: &'a [u8], count: usize) -> OpenLists<'a>
     }
 }
 
-// Opens the list received with each note. A list that is equal to the own one is counted with that one, and so is that of a controller with no entry. Of the
-// others, those whose frames have the bytes of the frame before theirs are counted with it; those with no entry in between do not part them.
-pub(crate) fn open_lists<'a>(state: &'a State, noted: &NotedTray<'a>) -> OpenLists<'a>
-    requires { Ready state.now noted.now.tray.now noted.now.notes }
-    ensures { OpensAll state.now noted.now.tray.now noted.now.notes result }
+// Opens the list received with each note, behind the own one that alone is open. A list that is equal to the own one is counted with that one, and so is that
+// of a controller with no entry. Of the others, those whose frames have the bytes of the frame before theirs are counted with it; those with no entry in
+// between do not part them. The lists are lent, since a value that is returned would be copied.
+pub(crate) fn open_lists(state: &State, noted: &NotedTray, opened: &mut OpenLists)
+    requires ready { Ready state.now noted.now.tray.now noted.now.notes }
+    requires own { OpensOwn state.now.echoes.at noted.now.tray.now (sent_count state.now) opened.old }
+    ensures { OpensAll state.now noted.now.tray.now noted.now.notes opened.new }
 {
-    let mut opened = own_alone(&state.echoes.at, noted.tray, sent_count(state));
     let mut last = NO_FRAME;
     let mut slot = 0;
     for &note in &noted.notes[..state.heard.len] {
@@ -136,5 +137,4 @@ pub(crate) fn open_lists<'a>(state: &'a State, noted: &NotedTray<'a>) -> OpenLis
             slot = place;
         }
     }
-    opened
 }

@@ -8,7 +8,7 @@ ghost use Rattle.wire.specs.Notes.{no_frame};
 ghost use Rattle.wire.specs.Tray.{entries};
 ghost use Rattle.controller.specs.State.{sound_list};
 ghost use Rattle.controller.specs.Received.{senders, read_in};
-ghost use Rattle.controller.specs.Work.Received.{noted, others_only, HearsFrom, HearsIn, Hears};
+ghost use Rattle.controller.specs.Work.Received.{noted, others_only, HearsFrom, Hears};
 ghost use Rattle.controller.specs.Work.Received.{received_by, bit_had, bit_under, Votes, CountsBits, Ready, sent_count};
 
 use crate::counts::Counts;
@@ -108,20 +108,23 @@ fn hear_new(
 }
 
 // Puts the directory's senders into heard, and makes a note on the frames of each. `None` where one of them does not fit, or more than 64 would be heard;
-// heard may then have some of them. It goes from the directory's end to its front, so that of equal copies the first is kept.
-pub(crate) fn hear<'a>(tray: PackedTray<'a>, own: u32, heard: &mut Numbers) -> Option<NotedTray<'a>>
-    requires { sound_list heard.old ≡ true }
-    ensures { HearsIn own tray.entry.bytes.now (listed heard.old) result heard.new }
+// heard may then have some of them. It goes from the directory's end to its front, so that of equal copies the first is kept. The notes are lent, since a
+// value that is returned would be copied.
+pub(crate) fn hear(
+    tray: PackedTray,
+    own: u32,
+    heard: &mut Numbers,
+    notes: &mut [u32; MAX_NUMBERS],
+) -> Option<()>
+    requires sound { sound_list heard.old ≡ true }
+    requires empty { notes.old ≡ replicate max_numbers no_frame }
+    ensures { Hears own tray.entry.bytes.now (listed heard.old) (is_some result) heard.new notes.new }
 {
-    let mut notes = [NO_FRAME; MAX_NUMBERS];
-    let left = note_known(tray, own, heard, &mut notes);
-    if 0 < left {
-        hear_new(tray, own, heard, left, &mut notes)?;
+    let left = note_known(tray, own, heard, notes);
+    if left == 0 {
+        return Some(());
     }
-    Some(NotedTray {
-        tray: tray.bytes,
-        notes,
-    })
+    hear_new(tray, own, heard, left, notes)
 }
 
 // The bit that bytes say in a round; none where they are void.

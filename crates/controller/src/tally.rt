@@ -1,14 +1,15 @@
 // The tally of the received lists, and what it makes of echoes and candidates. The lists rise, so one walk goes along all of them together, least number
 // first. It passes each place of a list once, and a number is settled as soon as it is passed.
-ghost use Rattle.std.specs.Prelude.{◌≤◌, is_some};
+ghost use Rattle.std.specs.Prelude.{[], ◌≡◌, ◌≤◌, is_some};
 ghost use Rattle.wire.specs.Limits.{max_numbers};
+ghost use Rattle.wire.specs.Numbers.{stored};
 ghost use Rattle.controller.specs.Work.Received.{Ready};
 ghost use Rattle.controller.specs.Work.Tally.{GrowsLists, Tallies};
 
 use crate::heads::{Heads, SLOTS};
 use crate::lists::{has_at, insert_at, no_numbers, place_from};
 use crate::open_list::{END, OpenLists};
-use crate::opened::open_lists;
+use crate::opened::{open_lists, own_alone};
 use crate::own::count_own;
 use crate::received::{NotedTray, sent_count};
 use crate::state::State;
@@ -87,25 +88,25 @@ impl Settled {
 }
 
 // Goes along the received lists, from the candidates that were and no echoes. Where more than two thirds sent the own list, the others change nothing: its
-// numbers have reached two thirds without them, and no other number can reach a third. `None` where there are too many.
-fn tally(state: &State, noted: &NotedTray) -> Option<Settled>
-    requires { Ready state.now noted.now.tray.now noted.now.notes }
-    ensures { Tallies state.now noted.now.tray.now result }
+// numbers have reached two thirds without them, and no other number can reach a third. `None` where there are too many. What is settled is lent, since a
+// value that is returned would be copied.
+fn tally(state: &State, noted: &NotedTray, settled: &mut Settled) -> Option<()>
+    requires ready { Ready state.now noted.now.tray.now noted.now.notes }
+    requires echoes { settled.old.echoed ≡ stored [] }
+    requires candidates { settled.old.candidates ≡ state.now.candidates }
+    requires place { settled.old.place ≡ 0 }
+    ensures { Tallies state.now noted.now.tray.now result settled.new }
 {
     let h = state.heard.len;
-    let mut settled = Settled {
-        echoed: no_numbers(),
-        candidates: state.candidates,
-        place: 0,
-    };
     let equal = count_own(state, noted);
     if 2 * h < 3 * equal {
         let own = &state.echoes.at[..sent_count(state)];
-        settled.settle_own(own, equal, h)?;
+        settled.settle_own(own, equal, h)
     } else {
-        settled.settle_all(&open_lists(state, noted), h)?;
+        let mut opened = own_alone(&state.echoes.at, noted.tray, sent_count(state));
+        open_lists(state, noted, &mut opened);
+        settled.settle_all(&opened, h)
     }
-    Some(settled)
 }
 
 // Echoes and candidates after the tray. `None` where one of them does not fit; the state then stays as it is.
@@ -113,8 +114,16 @@ pub(crate) fn grow(state: &mut State, noted: &NotedTray) -> Option<()>
     requires { Ready state.old noted.now.tray.now noted.now.notes }
     ensures { GrowsLists state.old noted.now.tray.now (is_some result) state.new }
 {
-    let settled = tally(state, noted)?;
-    state.echoes = settled.echoed;
-    state.candidates = settled.candidates;
+    let mut settled = Settled {
+        echoed: no_numbers(),
+        candidates: state.candidates,
+        place: 0,
+    };
+    tally(state, noted, &mut settled)?;
+    // Lengths and places apart: a copy of 256 bytes is straight, one of a whole list is a loop.
+    state.echoes.len = settled.echoed.len;
+    state.echoes.at = settled.echoed.at;
+    state.candidates.len = settled.candidates.len;
+    state.candidates.at = settled.candidates.at;
     Some(())
 }

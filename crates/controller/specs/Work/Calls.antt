@@ -1,6 +1,6 @@
 -- Words for calls.rt: what a call has passed, and what it sends. They are no part of the rules: the laws tie them to the rules' words.
 --     early_tests s b n        the tests 1 to 5; early_refusal s b n, 0, or the number of the first of them that fails
---     Checked s b n            what a tray has passed before its senders are looked at: tests 1, 2, 3 and 5; that it has passed 4 is known of its type
+--     Checked s b n            what a tray has passed before its senders are looked at: tests 1 to 5
 --     Sends v given r left     r is the length of the frame that is sent with v, and it stands in front of what stood in the buffer
 --     SendsState s given r left     so it is with the view of the state s, if it is sound but for its record
 use Rattle.std.specs.Prelude.{ℕ, ◌<◌, ◌≤◌, Bool, true, List, [], ◌∷◌, ◌++◌, ◌≡◌, leb, eqb, length, drop}
@@ -29,6 +29,7 @@ pub record Checked (s : State) (b : List ℕ) (n : ℕ) : Type 0 where
   pub early : s.round < last_round
   pub active : undecided (view s) ≡ true
   pub room : max_frame ≤ n
+  pub packed : well_formed b ≡ true
   pub round : round_of b ≡ s.round
 
 pub record Sends (v : View) (given : List ℕ) (r : ℕ) (left : List ℕ) : Type 0 where

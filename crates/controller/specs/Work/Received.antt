@@ -7,7 +7,6 @@
 --                            each of them
 --     Hears o b l r n f      r says whether the senders of the tray b fit, o being the own number, and at most 64 are then heard; if so, the list n is
 --                            the stored form of those, and f has a note on each of them
---     HearsIn o b l r n      the same of an answer that has the tray and the notes, or is none
 --     received_by s b        what the state s has received with the tray b
 --     Ready s b f            what a step finds: a state s that has not decided and is sound, but for its record, a tray b whose senders are all heard and
 --                            none is oneself, and in f a note on each number heard; the own number's, like that of one that is silent, is none
@@ -16,7 +15,7 @@
 --     Votes t d b k r        r is the header of a frame of round t that says that bit, where it is 0 or 1, and of neither such frame where it is not
 --     CountsBits k r n       n has how many of those heard sent each bit in a frame of kind k, where r was received
 --     sent_count s           how many numbers the frame of the state s lists
-use Rattle.std.specs.Prelude.{ℕ, ◌-◌, ◌<◌, ◌≤◌, Bool, true, false, cond, not, ◌&&◌, List, [], ◌≢◌, ◌≡◌, leb, ltb, eqb, length, get_or, Option, Some, None}
+use Rattle.std.specs.Prelude.{ℕ, ◌-◌, ◌<◌, ◌≤◌, Bool, true, cond, not, ◌&&◌, List, ◌≢◌, ◌≡◌, leb, ltb, eqb, length, get_or, Option, Some, None}
 use Rattle.wire.specs.Limits.{max_numbers}
 use Rattle.wire.specs.Numbers.{stored, listed}
 use Rattle.wire.specs.Found.{Under, meaning, found}
@@ -30,7 +29,6 @@ use Rattle.controller.specs.State.{view, undecided, sound_list, sound_rules}
 use Rattle.controller.specs.Received.{Received, senders, read_in, receive, says, count}
 use Rattle.controller.specs.declared.state.State.{State}
 use Rattle.controller.specs.declared.counts.Counts.{Counts}
-use Rattle.controller.specs.declared.received.NotedTray.{NotedTray}
 
 abbrev pub noted : List ℕ → ℕ → Under
 noted b k = meaning b (found_by k)
@@ -60,10 +58,6 @@ pub record Hears (own : ℕ) (b l : List ℕ) (r : Bool) (n : Numbers) (f : List
   pub fits : r ≡ (others_only own (senders (entries b)) && leb (length (heard_after b l)) max_numbers)
   pub list : r ≡ true → n ≡ stored (heard_after b l)
   pub notes : r ≡ true → (j : ℕ) → j < length (heard_after b l) → found_by (get_or f j 0) ≡ found b (get_or (heard_after b l) j 0)
-
-abbrev pub HearsIn : ℕ → List ℕ → List ℕ → Option NotedTray → Numbers → Type 0
-HearsIn own b l (Some t) list = (t.tray.now ≡ b) × Hears own b l true list t.notes
-HearsIn own b l None list = Hears own b l false list []
 
 abbrev pub received_by : State → List ℕ → Received
 received_by s b = receive (view s) (entries b)

@@ -11,7 +11,7 @@
 --     Sorts v h c o r            all numbers are settled, or, where o is none, there are too many
 --     alone w m y                how many sent a list with y, where m sent w and nobody another
 --     SettlesNext, SortsAll, SortsOne      the same of one number, of the open lists and of one list
---     Tallies s b o              so it is with the numbers that the state s receives with the tray b
+--     Tallies s b o r            so it is with the numbers that the state s receives with the tray b
 --     GrowsLists s b r t         so it is with the state t that the growing of the lists of s gives; r says whether they fit
 use Rattle.std.specs.Prelude.{ℕ, ◌+◌, ◌<◌, ◌≤◌, Bool, true, false, cond, ◌&&◌, List, [], ◌≡◌, ◌⊎◌, ◌↔◌, leb, length, Option, Some, None}
 use Rattle.wire.specs.Limits.{max_numbers}
@@ -95,9 +95,8 @@ alone own m y = cond (mem y own) m 0
 abbrev pub SortsOne : List ℕ → ℕ → ℕ → Numbers → Option Unit → Settled → Type 0
 SortsOne own m h known o r = Sorts (alone own m) h (listed known) o r
 
-abbrev pub Tallies : State → List ℕ → Option Settled → Type 0
-Tallies s b (Some r) = Sorts (tally (lists (received_by s b))) (length (received_by s b).heard) (listed s.candidates) (Some tt) r
-Tallies s b None = TooMany (tally (lists (received_by s b))) (length (received_by s b).heard) (listed s.candidates)
+abbrev pub Tallies : State → List ℕ → Option Unit → Settled → Type 0
+Tallies s b o r = Sorts (tally (lists (received_by s b))) (length (received_by s b).heard) (listed s.candidates) o r
 
 -- the two lists that making round 3 + 3r gives
 abbrev pub candidates_of : State → List ℕ → List ℕ

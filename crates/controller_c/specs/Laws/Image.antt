@@ -36,7 +36,7 @@ pub record SizedLists (s : State) : Type 0 where
   pub candidates : Sized s.candidates
   pub echoes : Sized s.echoes
 
-rules_sized : (s : State) → sound_rules s ≡ true → SizedLists s
+pub rules_sized : (s : State) → sound_rules s ≡ true → SizedLists s
 rules_sized s h =
     let g = rules_give s h in
     let e = sym (rules_stored s h) in

@@ -1,6 +1,6 @@
 -- `controller::opened::open_lists` meets its contract: the lists of the notes gone through are open, and the open ones count each number as those do.
-use Rattle.std.proofs.Common.{List, ℕ, ◌≡◌, ◌<◌, ◌⊎◌, length, get_or, take, get_or-take, length-take, inl, inr, arith}
-use Rattle.controller.specs.Laws.Work.Opened.{own_places, own_sound, opening_start, opening_placeable, opening_more}
+use Rattle.std.proofs.Common.{List, ℕ, ◌≡◌, ◌<◌, ◌⊎◌, length, get_or, take, get_or-take, length-take, inl, inr, refl, arith}
+use Rattle.controller.specs.Laws.Work.Opened.{opening_start, opening_placeable, opening_more}
 use Rattle.controller.specs.Laws.Work.Ready.{ready_few}
 use Rattle.controller.proofs.opened.open_lists.Goals.{then-note-ne-NO_FRAME, else-note-ne-NO_FRAME}
 use Rattle.controller.proofs.opened.open_lists.Goals as goal
@@ -9,24 +9,15 @@ inside : {h j : ℕ} (notes : List ℕ) → j < length (take h notes) → j < h
 inside {h} notes low = omega (arith, length-take h notes)
 
 pub shared_ref_as_front-note-items : goal.shared_ref_as_front-note-items
-shared_ref_as_front-note-items c = ready_few c.requires
-
-pub own_alone-opened-requires-clause-few : goal.own_alone-opened-requires-clause-few
-own_alone-opened-requires-clause-few c = rw c.sent_count.ensures (own_sound c.requires).0
-
-pub own_alone-opened-requires-clause-inside : goal.own_alone-opened-requires-clause-inside
-own_alone-opened-requires-clause-inside c = omega (arith, c.sent_count.ensures, (own_sound c.requires).0, own_places c.requires)
-
-pub own_alone-opened-requires-clause-list : goal.own_alone-opened-requires-clause-list
-own_alone-opened-requires-clause-list c =
-    let own = (own_sound c.requires).1 in
-    rw c.sent_count.ensures (record { rises = own.rises; positive = own.positive })
+shared_ref_as_front-note-items c = ready_few c.requires.ready
 
 pub loop-note-init : goal.loop-note-init
-loop-note-init c = opening_start c.requires _ _ c.sent_count.ensures c.own_alone-opened.ensures
+loop-note-init c = opening_start _ _ refl c.requires.own
 
 pub place_list-place-requires : goal.place_list-place-requires
-place_list-place-requires c = opening_placeable c.requires c.loop-note.invariant (inside c.args.noted.now.notes c.loop-note-test.true)
+place_list-place-requires c =
+    let low = inside c.args.noted.now.notes c.loop-note-test.true in
+    opening_placeable c.loop-note.invariant (omega (arith, low, ready_few c.requires.ready))
 
 pub loop-note-preserved : goal.loop-note-preserved
 loop-note-preserved c =
@@ -43,4 +34,4 @@ loop-note-preserved c =
       | then-note-ne-NO_FRAME w ↦ inl (rw note-is at w.last-is, w.slot-is)
       | else-note-ne-NO_FRAME w ↦ inr (w.last-is, w.slot-is)
     ] in
-    opening_more c.requires c.loop-note.invariant low (rw note-is at c.place_list-place.ensures) recalled
+    opening_more c.loop-note.invariant (rw note-is at c.place_list-place.ensures) recalled

@@ -2,8 +2,8 @@
 use Rattle.controller.specs.Laws.Work.Grow.{sorted_grows, crowded_keeps}
 use Rattle.controller.proofs.tally.grow.Goals as goal
 
-pub returns-in_err-settled : goal.returns-in_err-settled
-returns-in_err-settled c = rw c.from_residual.ensures (crowded_keeps _ _ c.requires.sound c.in_err-settled.ensures)
+pub returns-in_err-tally : goal.returns-in_err-tally
+returns-in_err-tally c = rw c.from_residual.ensures (crowded_keeps _ _ c.requires.sound c.tally.new.settled c.in_err-tally.ensures)
 
 pub returns : goal.returns
-returns c = sorted_grows _ _ c.requires.sound c.in_ok-settled.settled c.in_ok-settled.ensures
+returns c = sorted_grows _ _ c.requires.sound c.tally.new.settled c.in_ok-tally.ensures

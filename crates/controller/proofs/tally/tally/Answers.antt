@@ -1,10 +1,10 @@
 -- `crate::tally::tally` meets its contract: the open lists count as the received ones do; where more than two thirds sent the own list, what is sorted by it
 -- alone is sorted by the tally.
-use Rattle.std.specs.Prelude.{ℕ, ◌*◌, ◌<◌, List, ◌≡◌, refl, take, Option, Some, None}
+use Rattle.std.specs.Prelude.{ℕ, ◌*◌, ◌<◌, List, ◌≡◌, refl, take, Option}
 use Rattle.std.proofs.Common.{arith}
 use Rattle.wire.specs.Numbers.{listed}
 use Rattle.controller.specs.Laws.Work.Alone.{agrees_decides}
-use Rattle.controller.specs.Laws.Work.Opened.{own_sound}
+use Rattle.controller.specs.Laws.Work.Opened.{own_places, own_sound}
 use Rattle.controller.specs.Laws.Work.Ready.{ready_few}
 use Rattle.controller.specs.Work.Opened.{noted_list, having}
 use Rattle.controller.specs.Work.Own.{AgreesOwn}
@@ -23,43 +23,47 @@ decides {s} {b} {t} {k} o r ready agrees most sent sorts =
     (rw sent at sorts)
 
 pub overflow_mul-h : goal.overflow_mul-h
-overflow_mul-h c = record { fits = omega (arith, ready_few c.requires) }
+overflow_mul-h c = record { fits = omega (arith, ready_few c.requires.ready) }
 
 pub overflow_mul-equal : goal.overflow_mul-equal
-overflow_mul-equal c = record { fits = omega (arith, ready_few c.requires, c.count_own-equal.ensures.few) }
+overflow_mul-equal c = record { fits = omega (arith, ready_few c.requires.ready, c.count_own-equal.ensures.few) }
 
 pub shared_ref_as_front-own : goal.shared_ref_as_front-own
-shared_ref_as_front-own c = omega (arith, c.sent_count.ensures, (own_sound c.requires).0)
+shared_ref_as_front-own c = omega (arith, c.sent_count.ensures, (own_sound c.requires.ready).0)
 
 pub settle_own-requires-clause-start : goal.settle_own-requires-clause-start
-settle_own-requires-clause-start c = starts c.requires _ c.no_numbers.ensures
+settle_own-requires-clause-start c = starts c.requires.ready c.requires.echoes c.requires.candidates c.requires.place
 
 pub settle_own-requires-clause-list : goal.settle_own-requires-clause-list
 settle_own-requires-clause-list c =
-    let own = (own_sound c.requires).1 in
+    let own = (own_sound c.requires.ready).1 in
     rw c.sent_count.ensures (record { rises = own.rises; positive = own.positive })
 
 pub settle_own-requires-clause-few : goal.settle_own-requires-clause-few
-settle_own-requires-clause-few c = omega (arith, c.count_own-equal.ensures.few, ready_few c.requires)
+settle_own-requires-clause-few c = omega (arith, c.count_own-equal.ensures.few, ready_few c.requires.ready)
 
-pub returns-in_err-settle_own : goal.returns-in_err-settle_own
-returns-in_err-settle_own c =
-    rw c.from_residual.ensures
-    (tallied c.requires _ None c.settle_own.new.self (λ x. refl)
-    (decides None c.settle_own.new.self c.requires c.count_own-equal.ensures c.if-h-equal.true c.sent_count.ensures c.in_err-settle_own.ensures))
+pub returns-then-h-equal : goal.returns-then-h-equal
+returns-then-h-equal c =
+    tallied c.requires.ready _ _ _ (λ x. refl)
+    (decides _ _ c.requires.ready c.count_own-equal.ensures c.if-h-equal.true c.sent_count.ensures (rw c.requires.candidates at c.settle_own.ensures))
 
-pub returns-in_ok-settle_own : goal.returns-in_ok-settle_own
-returns-in_ok-settle_own c =
-    tallied c.requires _ (Some tt) c.settle_own.new.self (λ x. refl)
-    (decides (Some tt) c.settle_own.new.self c.requires c.count_own-equal.ensures c.if-h-equal.true c.sent_count.ensures c.in_ok-settle_own.ensures)
+pub own_alone-opened-requires-clause-few : goal.own_alone-opened-requires-clause-few
+own_alone-opened-requires-clause-few c = rw c.sent_count-else-h-equal.ensures (own_sound c.requires.ready).0
+
+pub own_alone-opened-requires-clause-inside : goal.own_alone-opened-requires-clause-inside
+own_alone-opened-requires-clause-inside c =
+    omega (arith, c.sent_count-else-h-equal.ensures, (own_sound c.requires.ready).0, own_places c.requires.ready)
+
+pub own_alone-opened-requires-clause-list : goal.own_alone-opened-requires-clause-list
+own_alone-opened-requires-clause-list c =
+    let own = (own_sound c.requires.ready).1 in
+    rw c.sent_count-else-h-equal.ensures (record { rises = own.rises; positive = own.positive })
+
+pub open_lists-requires-clause-own : goal.open_lists-requires-clause-own
+open_lists-requires-clause-own c = rw c.sent_count-else-h-equal.ensures at c.own_alone-opened.ensures
 
 pub settle_all-requires : goal.settle_all-requires
-settle_all-requires c = starts c.requires _ c.no_numbers.ensures
+settle_all-requires c = starts c.requires.ready c.requires.echoes c.requires.candidates c.requires.place
 
-pub returns-in_err-settle_all : goal.returns-in_err-settle_all
-returns-in_err-settle_all c =
-    rw c.from_residual-in_err-settle_all.ensures
-    (tallied c.requires _ None c.settle_all.new.self c.open_lists.ensures.counted c.in_err-settle_all.ensures)
-
-pub returns-in_ok-settle_all : goal.returns-in_ok-settle_all
-returns-in_ok-settle_all c = tallied c.requires _ (Some tt) c.settle_all.new.self c.open_lists.ensures.counted c.in_ok-settle_all.ensures
+pub returns-else-h-equal : goal.returns-else-h-equal
+returns-else-h-equal c = tallied c.requires.ready _ _ _ c.open_lists.ensures.counted (rw c.requires.candidates at c.settle_all.ensures)

@@ -35,5 +35,6 @@ module _ (s : State) (b : List ℕ) (n : ℕ) where
         early = ltb-true _ _ second.0;
         active = second.1;
         room = leb-true _ _ (passed 2);
+        packed = passed 3;
         round = eqb-true _ _ (passed 4);
       }

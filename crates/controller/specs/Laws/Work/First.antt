@@ -93,7 +93,7 @@ fits_used (x ∷ l) (t ∷ u) (suc i) up e h =
 -- ---- the unused places
 
 -- the used places are as they are recorded, so the others decide
-recorded_is : (w : List ℕ) (n : ℕ) → n ≤ length w → same w (recorded (take n w)) ≡ same (drop n w) (replicate (max_numbers - n) 0)
+pub recorded_is : (w : List ℕ) (n : ℕ) → n ≤ length w → same w (recorded (take n w)) ≡ same (drop n w) (replicate (max_numbers - n) 0)
 recorded_is w n h =
     ap (λ (s : List ℕ). same s (recorded (take n w))) (sym (take-append-drop n w))
     ∙ same_append (take n w) (drop n w) (replicate (max_numbers - length (take n w)) 0)

@@ -51,7 +51,7 @@ module _ (s : State) (b : List ℕ) (test : sound_rules s ≡ true) where
   somebody : 0 < length l.heard
   somebody = heard_some (view s) (entries b) (rules_give s test)
 
-  pub sorted_grows : (r : Settled) → Tallies s b (Some r) → GrowsLists s b true (record s { echoes = r.echoed; candidates = r.candidates })
+  pub sorted_grows : (r : Settled) → Tallies s b (Some tt) r → GrowsLists s b true (record s { echoes = r.echoed; candidates = r.candidates })
   sorted_grows r sorts =
       let h = rules_give s test in
       let echoes : r.echoed ≡ stored (echoed c l) =
@@ -68,5 +68,5 @@ module _ (s : State) (b : List ℕ) (test : sound_rules s ≡ true) where
       le-leb (length (echoed c l)) max_numbers (omega (arith, ap (λ (q : Numbers). q.len) echoes, echoes-few.used, echoes-few.list.short)) in
       record { fits = rw (one, two); grown = λ t. rw (echoes, candidates); kept = λ t. absurd (true≢false t) }
 
-  pub crowded_keeps : Tallies s b None → GrowsLists s b false s
-  crowded_keeps crowd = record { fits = sym (too_many c l somebody crowd); grown = λ t. absurd (true≢false (sym t)); kept = λ t. refl }
+  pub crowded_keeps : (r : Settled) → Tallies s b None r → GrowsLists s b false s
+  crowded_keeps r crowd = record { fits = sym (too_many c l somebody crowd); grown = λ t. absurd (true≢false (sym t)); kept = λ t. refl }

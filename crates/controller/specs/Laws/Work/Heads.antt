@@ -114,7 +114,7 @@ Waits t m x j = (j < m) × (get_or t (m + j) 0 / slots ≡ x)
 
 module _ (w : ℕ → ℕ) (t : List ℕ) (m x : ℕ) where
   -- another key of an inner node does not matter
-  waiting_inner : (k v : ℕ) → k < m → waiting w (set t k v) m x ≡ waiting w t m x
+  pub waiting_inner : (k v : ℕ) → k < m → waiting w (set t k v) m x ≡ waiting w t m x
   waiting_inner k v h = total_same _ _ m (λ j i. rw (get_or-set_other t k (m + j) v 0 (omega arith)))
 
   -- list j moves on to a key above x

@@ -120,7 +120,7 @@ module _ (i x : ℕ) (s r : List ℕ) (h : i ≤ length s) where
   pub put_here : get_or (take i s ++ x ∷ r) i 0 ≡ x
   put_here = let e : i + 0 ≡ i = omega arith in rw e at (put_at 0)
 
-  put_behind : (j : ℕ) → i < j → get_or (take i s ++ x ∷ r) j 0 ≡ get_or r (j - (i + 1)) 0
+  pub put_behind : (j : ℕ) → i < j → get_or (take i s ++ x ∷ r) j 0 ≡ get_or r (j - (i + 1)) 0
   put_behind j l = let e : i + suc (j - (i + 1)) ≡ j = omega arith in rw e at (put_at (suc (j - (i + 1))))
 
 -- the numbers from place i on stand one place further, in a list and in its places

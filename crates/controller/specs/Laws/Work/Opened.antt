@@ -25,7 +25,7 @@ use Rattle.controller.specs.Work.OpenList.{total, end_mark, max_lists, list_from
 use Rattle.controller.specs.Work.Opened.{SpanOf, list_under, noted_list, having, nth_open, weighed_in, sent_in, received_list}
 use Rattle.controller.specs.Work.Opened.{OpensOwn, Recalls, Placeable, Adds}
 use Rattle.controller.specs.Laws.State.{SoundList, rules_give}
-use Rattle.controller.specs.Laws.Work.Ready.{ready_few, ready_list, ready_size}
+use Rattle.controller.specs.Laws.Work.Ready.{ready_list, ready_size}
 use Rattle.controller.specs.Laws.Work.Tally.{nth_list, list_at_sound, read_sound, below_in, echoes_sized}
 use Rattle.controller.specs.Laws.Work.Total.{total_same, total_grows, count_total}
 use Rattle.controller.specs.declared.open_list.OpenList.{OpenList}
@@ -331,7 +331,7 @@ pub record Opening (s : State) (b t : List ℕ) (o : OpenLists) (last slot j : �
   pub counts : (x : ℕ) → weighed_in o x ≡ having (noted_list s b t) j x
   pub recalls : Recalls s.round o last slot
 
-module _ {s : State} {b t : List ℕ} (ready : Ready s b t) where
+module _ {s : State} {b t : List ℕ} where
   -- the own list is all that is open at first
   pub opening_start : (o : OpenLists) (n : ℕ) → n ≡ sent_count s → OpensOwn s.echoes.at b n o → Opening s b t o no_frame 0 0
   opening_start o n count g =
@@ -348,10 +348,9 @@ module _ {s : State} {b t : List ℕ} (ready : Ready s b t) where
       }
 
   -- then the list of note j is counted
-  module _ {o : OpenLists} {last slot j : ℕ} (g : Opening s b t o last slot j) (inside : j < s.heard.len) where
-    pub opening_placeable : Placeable s.round o last slot
-    opening_placeable =
-        record { free = omega (arith, g.few, ready_few ready); light = omega (arith, g.sent, ready_few ready); recalls = g.recalls }
+  module _ {o : OpenLists} {last slot j : ℕ} (g : Opening s b t o last slot j) where
+    pub opening_placeable : j < max_numbers → Placeable s.round o last slot
+    opening_placeable inside = record { free = omega (arith, g.few); light = omega (arith, g.sent); recalls = g.recalls }
 
     module _ {p : OpenLists} {r last' slot' : ℕ} (adds : Adds (received_list s.round o (get_or t j 0)) o r p)
         (recalled : ((last' ≡ get_or t j 0) × (slot' ≡ r)) ⊎ ((last' ≡ last) × (slot' ≡ slot)))

@@ -64,12 +64,12 @@ abbrev pub OrderedBut : List ℕ → ℕ → ℕ → Type 0
 OrderedBut t m i = (p : ℕ) → 0 < p → p < m → Node t p ⊎ Above p i
 
 -- another key of node i matters for node i and the one above it
-node_set : (t : List ℕ) (p i v : ℕ) → p ≢ i → i / 2 ≢ p → Node t p → Node (set t i v) p
+pub node_set : (t : List ℕ) (p i v : ℕ) → p ≢ i → i / 2 ≢ p → Node t p → Node (set t i v) p
 node_set t p i v d e n =
     rw (get_or-set_other t i p v 0 d, get_or-set_other t i (2 * p) v 0 (omega arith), get_or-set_other t i (2 * p + 1) v 0 (omega arith)) n
 
 -- node p, made anew
-node_made : (t : List ℕ) (p v : ℕ) → 0 < p → p < length t → v ≡ min (get_or t (2 * p) 0) (get_or t (2 * p + 1) 0) → Node (set t p v) p
+pub node_made : (t : List ℕ) (p v : ℕ) → 0 < p → p < length t → v ≡ min (get_or t (2 * p) 0) (get_or t (2 * p + 1) 0) → Node (set t p v) p
 node_made t p v some inside e =
     rw (get_or-set_same t p v 0 inside, get_or-set_other t p (2 * p) v 0 (omega arith), get_or-set_other t p (2 * p + 1) v 0 (omega arith)) e
 

@@ -3,14 +3,15 @@ use Rattle.std.specs.Prelude.{ℕ, suc, ◌+◌, ◌/◌, ◌≤◌, ◌<◌, tr
 use Rattle.std.proofs.Common.{inl, inr, sym, ap, ◌∙◌, arith, lt-ltb, le-ltb}
 use mathlib.Core.List.Memᴰ
 use Rattle.std.proofs.Math.Decide.{dec_lt}
-use Rattle.wire.specs.Numbers.{listed}
+use Rattle.wire.specs.Numbers.{stored, listed}
 use Rattle.controller.specs.Lists.{In, Rising}
+use Rattle.controller.specs.State.{sound_list}
 use Rattle.controller.specs.Work.Lists.{below}
 use Rattle.controller.specs.Thirds.{third, two_thirds}
 use Rattle.controller.specs.Work.OpenList.{end_mark, open_list, Opens, weighed}
 use Rattle.controller.specs.Work.Opened.{weighed_in}
 use Rattle.controller.specs.Work.Heads.{slots, Standing, Ordered, keys_of, places_of, RoomyIn, StandingIn}
-use Rattle.controller.specs.Work.Tally.{Settles, Startable, Sorts}
+use Rattle.controller.specs.Work.Tally.{Settles, Sorts}
 use Rattle.controller.specs.Laws.Lists.{count_none}
 use Rattle.controller.specs.Laws.Work.Settle.{holds_other, below_later}
 use Rattle.controller.specs.Laws.State.{sound_list_test}
@@ -60,16 +61,16 @@ module _ (v : ℕ → ℕ) (h : ℕ) (c : List ℕ) (pos : 0 < h) where
   )
 
 -- before the walk nothing is echoed, and the candidates are those that were
-pub settles_none : (v : ℕ → ℕ) {h : ℕ} {r : Settled} → Startable r h → Settles v h (listed r.candidates) 0 r
-settles_none v start =
+pub settles_none : (v : ℕ → ℕ) (h : ℕ) {r : Settled} → r.echoed ≡ stored [] → sound_list r.candidates ≡ true → r.place ≡ 0
+    → Settles v h (listed r.candidates) 0 r
+settles_none v h empty sound place =
     record {
-      echoes = rw start.empty (record {
+      echoes = rw empty (record {
         sound = sound_list_test [] (record { short = omega arith; rises = tt; positive = λ y i. absurd (Memᴰ.not-nil i) });
         has = λ y. (λ i. absurd (Memᴰ.not-nil i), λ p. absurd (omega (arith, p.0)));
       });
-      candidates =
-          record { sound = start.candidates; has = λ y. (λ i. inl i, λ p. elim p [ inl i ↦ i | inr t ↦ absurd (omega (arith, t.0)) ]) };
-      place = omega (arith, start.place);
+      candidates = record { sound = sound; has = λ y. (λ i. inl i, λ p. elim p [ inl i ↦ i | inr t ↦ absurd (omega (arith, t.0)) ]) };
+      place = omega (arith, place);
     }
 
 -- ---- the heads, from one number to a later one
@@ -105,11 +106,11 @@ module _ (o b s n w : List ℕ) (m : ℕ) (opens : Opens o b s n w m) (x : ℕ) 
   head j h low = omega (arith, low j h, stands_head (opens.rises j h) (omega (arith, opens.few)) (stands j h))
 
   -- so no number from x up to z is in a list
-  standing_none : (z : ℕ) → ((j : ℕ) → j < m → z ≤ get_or t (m + j) 0 / slots) → (y : ℕ) → x ≤ y → y < z → weighed o b s n w m y ≡ 0
+  pub standing_none : (z : ℕ) → ((j : ℕ) → j < m → z ≤ get_or t (m + j) 0 / slots) → (y : ℕ) → x ≤ y → y < z → weighed o b s n w m y ≡ 0
   standing_none z low y from to =
       weighed_none o b s n w m y (λ j h. below_none x z y (open_list o b s n j) (opens.rises j h) (head j h low) from to)
 
-  standing_on : (z : ℕ) → x ≤ z → ((j : ℕ) → j < m → z ≤ get_or t (m + j) 0 / slots) → Standing o b s n m z t p i
+  pub standing_on : (z : ℕ) → x ≤ z → ((j : ℕ) → j < m → z ≤ get_or t (m + j) 0 / slots) → Standing o b s n m z t p i
   standing_on z from low j h =
       let l = open_list o b s n j in
       let e : below z l ≡ below x l = below_stays x z l (opens.rises j h) from (head j h low) in

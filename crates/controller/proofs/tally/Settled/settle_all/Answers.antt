@@ -37,7 +37,8 @@ module _ {o : OpenLists} {h : ℕ} {start : Settled} (pre : Startable start h) {
 pub loop-key-init : goal.loop-key-init
 loop-key-init c =
     let lined = c.line_up.ensures in
-    walking_on _ _ _ c.requires.some 0 _ _ lined.room lined.ordered lined.standing (settles_none _ c.requires) (omega arith)
+    let before = settles_none _ _ c.requires.empty c.requires.candidates c.requires.place in
+    walking_on _ _ _ c.requires.some 0 _ _ lined.room lined.ordered lined.standing before (omega arith)
 
 pub settle-requires : goal.settle-requires
 settle-requires c = due c.requires c.loop-key.invariant _ c.pass-passed.ensures

@@ -17,7 +17,9 @@ due : {own : List ℕ} {m h i : ℕ} {start q : Settled} → Startable start h �
 due pre one passed inside = passed_next _ _ _ _ one.rises pre.some passed inside
 
 pub loop-number-init : goal.loop-number-init
-loop-number-init c = passed_none _ _ _ _ (settles_none _ c.requires.start)
+loop-number-init c =
+    let start = c.requires.start in
+    passed_none _ _ _ _ (settles_none _ _ start.empty start.candidates start.place)
 
 pub settle-requires : goal.settle-requires
 settle-requires c =
