@@ -22,13 +22,17 @@ pub same_self : (a : List ℕ) → same_bytes a a ≡ true
 same_self [] = refl
 same_self (x ∷ a) = rw (eq-eqb x x refl, same_self a)
 
--- other lengths are other bytes
-pub same_as_long : (a b : List ℕ) → length a ≢ length b → same_bytes a b ≡ false
-same_as_long a b apart = pick (same_bytes a b) refl
+-- what differs is told apart
+pub same_apart : (a b : List ℕ) → a ≢ b → same_bytes a b ≡ false
+same_apart a b apart = pick (same_bytes a b) refl
   where
     pick : (t : Bool) → same_bytes a b ≡ t → t ≡ false
-    pick true e = absurd (apart (ap length (same_is a b e)))
+    pick true e = absurd (apart (same_is a b e))
     pick false e = refl
+
+-- other lengths are other bytes
+pub same_as_long : (a b : List ℕ) → length a ≢ length b → same_bytes a b ≡ false
+same_as_long a b apart = same_apart a b (λ e. apart (ap length e))
 
 -- one byte more
 pub same_more : (a b : List ℕ) (i : ℕ) → i < length a → i < length b

@@ -2,12 +2,12 @@
 use Rattle.std.proofs.Common.{ℕ, suc, arith, sym, ap, ◌∙◌, ◌*◌, ◌/◌, ◌%◌, ◌-◌, ◌<◌, get_or, length-drop, drop-cons}
 use Rattle.std.proofs.Math.Path.{◌≡◌, refl}
 use Rattle.std.proofs.Math.Bool.{not, and_comm}
-use Rattle.std.specs.Prelude.{Bool, true, false, zero, List, [], ◌∷◌, ◌≢◌, length, take, drop, eqb}
+use Rattle.std.specs.Prelude.{Bool, true, false, zero, List, [], ◌∷◌, length, take, drop, eqb}
 use Rattle.std.specs.Simd.{first_chunks}
 use Rattle.std.specs.Cmp.Lexicographic.{pointwise, same_text, other_text}
 use Rattle.std.proofs.lemmas.List.{take-append-drop}
 use Rattle.wire.specs.Found.{same_bytes}
-use Rattle.wire.specs.Laws.Found.{same_is, same_self, same_split, same_as_long}
+use Rattle.wire.specs.Laws.Found.{same_self, same_split, same_apart, same_as_long}
 use Rattle.wire.proofs.found.same_bytes.Goals as goal
 
 -- what is made of the same whole blocks is the same
@@ -45,14 +45,6 @@ joined a b long blocks r front =
     front ∙ ap (λ (m : ℕ). same_bytes (take k a) (take m b)) at
     ∙ sym (same_split k a b ∙ rw (rest, same_self (drop k b)) (and_comm (same_bytes (take k a) (take k b)) true))
 
--- what is not equal is not the same
-differs : (a b : List ℕ) → a ≢ b → false ≡ same_bytes a b
-differs a b apart = pick (same_bytes a b) refl
-  where
-    pick : (t : Bool) → same_bytes a b ≡ t → false ≡ t
-    pick true e = absurd (apart (same_is a b e))
-    pick false e = refl
-
 -- what a test says of the one that it denies
 no : (t : Bool) → true ≡ not t → false ≡ t
 no true e = sym e
@@ -68,9 +60,9 @@ returns-then-a-b c = sym (same_as_long c.args.a.now c.args.b.now c.if-a-b.true)
 pub returns-then-ne : goal.returns-then-ne
 returns-then-ne c =
     let i = c.loop-i.i - 1 in
-    differs c.args.a.now c.args.b.now (λ e.
+    sym (same_apart c.args.a.now c.args.b.now (λ e.
     other_text (get_or c.as_rchunks.result.1.now i []) (get_or c.as_rchunks-2.result.1.now i []) (no _ (sym c.if-ne.true ∙ c.ne.ensures))
-    (rw (c.as_rchunks.ensures.back, c.as_rchunks-2.ensures.back, e) refl))
+    (rw (c.as_rchunks.ensures.back, c.as_rchunks-2.ensures.back, e) refl)))
 
 pub loop-i-preserved : goal.loop-i-preserved
 loop-i-preserved c =
